@@ -1,0 +1,5 @@
+//! The command line of floyd: its words, and the texts that it writes.
+#![tactic(auto)]
+
+mod texts;
+mod words;
