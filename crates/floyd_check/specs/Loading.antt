@@ -1,0 +1,72 @@
+-- The files of a project, as far as they can be had.
+use Rattle.std.specs.Prelude.{ℕ, ◌+◌, nat_le, if◌then◌else◌, List, [], ◌∷◌, length, Option, Some, None, Result, Ok, Err}
+use Rattle.std.specs.List.{flat_map}
+use Rattle.floyd_text.specs.declared.place.Place.{Place}
+use Rattle.floyd_text.specs.declared.refusal.Refusal.{Refusal}
+use Rattle.floyd_text.specs.declared.refusal.Rule.TheVariants.{Reading}
+use Rattle.floyd_text.specs.declared.refusal.Shown.TheVariants.{Nothing}
+use Rattle.floyd_text.specs.Place.{place_at, first_place}
+use Rattle.floyd_text.specs.Outside.{Files, file_in}
+use Rattle.floyd_project.specs.declared.module.FileName.{FileName}
+use Rattle.floyd_project.specs.declared.module.Module.{Module}
+use Rattle.floyd_project.specs.Project.{project_of}
+
+-- the most bytes of a file, and of all files but the project
+abbrev pub max_file : ℕ
+max_file = 4194304
+
+abbrev pub max_files : ℕ
+max_files = 16777216
+
+-- a refusal that shows nothing
+abbrev pub refused : ℕ → Place → Refusal
+refused code place = record { code = code; rule = Reading; place = place; goal = 0; shown = Nothing }
+
+-- what comes after what was had
+abbrev pub on_ok : {A B : Type 0} → Result A Refusal → (A → Result B Refusal) → Result B Refusal
+on_ok (Ok a) f = f a
+on_ok (Err r) f = Err r
+
+-- the bytes of the file that is named at this place: it may be missing, or too large
+abbrev pub bytes_at : Place → Option (List ℕ) → Result (List ℕ) Refusal
+bytes_at place None = Err (refused 101 place)
+bytes_at place (Some bytes) = if nat_le (length bytes) max_file then Ok bytes else Err (refused 102 place)
+
+-- the bytes, unless with them all files so far have too many
+abbrev pub within_all : Place → ℕ → List ℕ → Result (List ℕ) Refusal
+within_all place total bytes = if nat_le total max_files then Ok bytes else Err (refused 104 place)
+
+-- the place at which the project file names a file
+abbrev pub named_at : List ℕ → FileName → Place
+named_at project file = place_at 0 project file.at
+
+-- the bytes of these files in order, where those before them have so many bytes
+abbrev pub files_from : Files → List ℕ → ℕ → List FileName → Result (List (List ℕ)) Refusal
+files_from held project before [] = Ok []
+files_from held project before (f ∷ fs) =
+    on_ok (bytes_at (named_at project f) (file_in held f.name)) (λ bytes.
+    on_ok (within_all (named_at project f) (before + length bytes) bytes) (λ bytes.
+    on_ok (files_from held project (before + length bytes) fs) (λ rest.
+    Ok (bytes ∷ rest))))
+
+-- the files of a module, and of modules
+abbrev pub files_of : Module → List FileName
+files_of m = m.source ∷ m.spec ∷ m.script ∷ []
+
+-- the modules, unless there are more than are built now
+abbrev pub built_modules : List Module → Result (List Module) Refusal
+built_modules [] = Ok []
+built_modules (m ∷ []) = Ok (m ∷ [])
+built_modules (m ∷ n ∷ ms) = Err (refused 199 (first_place 0))
+
+-- the modules of a project file
+abbrev pub modules_of : List ℕ → Result (List Module) Refusal
+modules_of project = on_ok (project_of project) built_modules
+
+-- the bytes of the project of that name and of its files in order
+abbrev pub loaded : Files → List ℕ → Result (List (List ℕ)) Refusal
+loaded held name =
+    on_ok (bytes_at (first_place 0) (file_in held name)) (λ project.
+    on_ok (modules_of project) (λ modules.
+    on_ok (files_from held project 0 (flat_map files_of modules)) (λ files.
+    Ok (project ∷ files))))
