@@ -3,15 +3,31 @@
 #![tactic(auto)]
 
 mod bytes;
+mod call_count;
+mod mem_shelf;
+mod mem_sink;
 mod name;
+mod named_file;
+mod outside;
 mod place;
+mod reading;
 mod refusal;
 mod shared;
 mod steps;
+mod stored;
+mod sure;
+mod writing;
 
 pub use bytes::Bytes;
+pub use mem_shelf::MemShelf;
+pub use mem_sink::MemSink;
 pub use name::Name;
+pub use named_file::NamedFile;
+pub use outside::{Found, Shelf, ShelfFault, Sink, SinkFault};
 pub use place::{Place, place_of};
+pub use reading::{MAX_FILE, ReadStop, read_file};
 pub use refusal::{Halt, No, Refusal, Rule, RuleStop, Shown};
 pub use shared::Shared;
 pub use steps::Steps;
+pub use sure::{SureShelf, SureSink};
+pub use writing::put_all;
