@@ -1,0 +1,4 @@
+pub mod Modulo
+pub mod KindLaws
+pub mod OperationLaws
+pub mod Wide
