@@ -1,5 +1,5 @@
 -- The files of a project, as far as they can be had.
-use Rattle.std.specs.Prelude.{ℕ, ◌+◌, nat_le, if◌then◌else◌, List, [], ◌∷◌, length, Option, Some, None, Result, Ok, Err}
+use Rattle.std.specs.Prelude.{ℕ, ◌+◌, nat_le, if◌then◌else◌, List, [], ◌∷◌, length, map, Option, Some, None, Result, Ok, Err}
 use Rattle.std.specs.List.{flat_map}
 use Rattle.floyd_text.specs.declared.place.Place.{Place}
 use Rattle.floyd_text.specs.declared.refusal.Refusal.{Refusal}
@@ -70,3 +70,12 @@ loaded held name =
     on_ok (modules_of project) (λ modules.
     on_ok (files_from held project 0 (flat_map files_of modules)) (λ files.
     Ok (project ∷ files))))
+
+-- the names of the project and of its files by their numbers
+abbrev pub names_with : List ℕ → Result (List Module) Refusal → List (List ℕ)
+names_with name (Ok modules) = name ∷ map (λ (f : FileName). f.name) (flat_map files_of modules)
+names_with name (Err r) = name ∷ []
+
+-- the same, of the held files
+abbrev pub names_in : Files → List ℕ → List (List ℕ)
+names_in held name = names_with name (on_ok (bytes_at (first_place 0) (file_in held name)) modules_of)

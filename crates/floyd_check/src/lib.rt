@@ -1,2 +1,6 @@
 //! The verdict on a project.
 #![tactic(auto)]
+
+mod files;
+
+pub use files::FileList;

@@ -1,5 +1,6 @@
 //! The command line of floyd: its words, and the texts that it writes.
 #![tactic(auto)]
 
+mod load;
 mod texts;
 mod words;

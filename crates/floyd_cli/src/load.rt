@@ -1,0 +1,83 @@
+ghost use Rattle.std.specs.Prelude.{◌≡◌, ◌+◌, ◌≤◌, IfOk};
+ghost use Rattle.std.specs.List.{flat_map};
+ghost use Rattle.floyd_check.specs.Loading.{files_of, named_at, refused};
+ghost use Rattle.floyd_text.specs.Place.{first_place};
+ghost use Rattle.floyd_cli.specs.Loads.{AreNamed, ReadsFile, ReadsFiles};
+
+use floyd_check::FileList;
+use floyd_project::{FileName, ModuleList};
+use floyd_text::{Bytes, Name, Place, ReadStop, Refusal, Rule, Shelf, Shown, place_of, read_file};
+use sqlite_items::Items;
+use std::alloc::{AllocError, Global};
+
+/// The greatest number of bytes of all files but the project.
+const MAX_FILES: u64 = 16777216;
+
+/// Names in the order of the files.
+pub type NameList = Items<Name>;
+
+/// A project's bytes, and the names of its files.
+#[derive(Debug, Drop)]
+pub struct Loaded {
+    pub files: FileList,
+    pub names: NameList,
+}
+
+/// Why a project was not loaded.
+#[derive(Debug, Drop)]
+pub enum LoadStop {
+    Refused(Refusal),
+    Fault,
+    Memory,
+}
+
+impl From<AllocError> for LoadStop {
+    ghost use Rattle.floyd_cli.specs.declared.load.LoadStop.TheVariants.{Memory};
+
+    ghost from_gives = { λ _ e. e ≡ Memory };
+
+    fn from(_error: AllocError) -> LoadStop {
+        LoadStop::Memory
+    }
+}
+
+/// A refusal that shows nothing.
+fn refusal_at(code: u16, place: Place) -> Refusal
+    ensures { result ≡ refused code place }
+{
+    Refusal {
+        code,
+        rule: Rule::Reading,
+        place,
+        goal: 0,
+        shown: Shown::Nothing,
+    }
+}
+
+/// The place at which the project file names a file.
+fn place_named(project: &[u8], file: &FileName) -> Place
+    ensures { result ≡ named_at project.now file.now }
+{
+    place_of(0, project, file.at.min(project.len()))
+}
+
+/// The bytes of the file of that name, which is named at this place. The place is made only for a refusal.
+#[tactic(auto, using(crate::proofs::LoadLemmas::has_bytes, crate::proofs::LoadLemmas::has_missing, crate::proofs::LoadLemmas::has_large))]
+fn read_project_file<H: Shelf>(alloc: Global, shelf: &mut H, name: &str) -> Result<Bytes, LoadStop>
+    ensures gives { ReadsFile (H.held shelf.old) (first_place 0) name.now (H.faults shelf.old) (H.faults shelf.new) result }
+    ensures held { H.held shelf.new ≡ H.held shelf.old }
+    ensures later { H.faults shelf.old ≤ H.faults shelf.new }
+{
+    let place = Place {
+        file: 0,
+        line: 1,
+        column: 1,
+    };
+    match read_file(alloc, shelf, name) {
+        Ok(bytes) => Ok(bytes),
+        Err(ReadStop::Missing) => Err(LoadStop::Refused(refusal_at(101, place))),
+        Err(ReadStop::TooLarge) => Err(LoadStop::Refused(refusal_at(102, place))),
+        Err(ReadStop::Fault) => Err(LoadStop::Fault),
+        Err(ReadStop::Memory) => Err(LoadStop::Memory),
+    }
+}
