@@ -1,4 +1,4 @@
-ghost use Rattle.std.specs.Prelude.{◌≡◌, ◌+◌, ◌-◌, ◌<◌, ◌≤◌, [], ◌++◌, ◌||◌, nat_le, IfOk, OnErr, is_err, length, min, take};
+ghost use Rattle.std.specs.Prelude.{◌≡◌, ◌-◌, ◌<◌, ◌≤◌, [], ◌||◌, nat_le, IfOk, OnErr, is_err, length, min, take};
 ghost use Rattle.floyd_text.specs.Calls.{after_call, fails_next};
 ghost use Rattle.floyd_text.specs.Outside.{HasCause, Appends};
 

@@ -42,7 +42,8 @@ impl From<ShelfFault> for ReadStop {
     }
 }
 
-/// The bytes of the file of that name.
+/// The bytes of the file of that name. It is read in pieces, each of a byte or more; `MAX_FILE` bytes are the most that
+/// is read.
 #[tactic(auto, using(crate::proofs::OutsideLemmas::has_longer, crate::proofs::OutsideLemmas::has_start))]
 pub fn read_file<H: Shelf>(alloc: Global, shelf: &mut H, name: &str) -> Result<Bytes, ReadStop>
     ensures bytes { IfOk result (HasFile (H.held shelf.old) name.now) }

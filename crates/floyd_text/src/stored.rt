@@ -1,4 +1,4 @@
-ghost use Rattle.std.specs.Prelude.{◌≡◌, ◌≤◌, Some, length, min, drop, take};
+ghost use Rattle.std.specs.Prelude.{◌≡◌, ◌≤◌, Some, length, min, drop};
 ghost use Rattle.std.specs.Option.{option_copied};
 ghost use Rattle.floyd_text.specs.Outside.{IsFound, IsPiece, IsRead, bytes_from, file_in};
 

@@ -1,4 +1,4 @@
-ghost use Rattle.std.specs.Prelude.{◌≡◌, ◌≤◌, Some, Ok, None, IfOk, length, min};
+ghost use Rattle.std.specs.Prelude.{◌≡◌, Some, Ok, None, IfOk, length, min};
 ghost use Rattle.floyd_text.specs.Outside.{Appends, IsRead, bytes_from, file_in};
 
 use crate::named_file::NamedFile;

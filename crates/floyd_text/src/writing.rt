@@ -1,4 +1,4 @@
-ghost use Rattle.std.specs.Prelude.{◌≡◌, OnOk, OnErr};
+ghost use Rattle.std.specs.Prelude.{OnOk, OnErr};
 ghost use Rattle.floyd_text.specs.Outside.{Appends, AppendsFront, HasCause};
 
 use crate::outside::{Sink, SinkFault};
