@@ -1,10 +1,12 @@
 -- What a project file reads as, one line after the other.
-use Rattle.std.specs.Prelude.{ℕ, Bool, true, false, ◌+◌, ◌&&◌, ◌||◌, not, nat_lt, nat_eq, bytes_eq, if◌then◌else◌, List, [], ◌∷◌, ◌++◌, length, drop, Option, Some, None, Result, Ok, Err, codes}
+use Rattle.std.specs.Prelude.{ℕ, Bool, ◌+◌, ◌&&◌, ◌||◌, not, nat_lt, nat_eq, bytes_eq, if◌then◌else◌, List, [], ◌∷◌, ◌++◌, length, drop, Option, Some, None, Result, Ok, Err, codes}
 use Rattle.std.specs.List.{list_any, starts_with}
 use Rattle.floyd_text.specs.declared.refusal.Refusal.{Refusal}
 use Rattle.floyd_text.specs.declared.refusal.Rule.TheVariants.{Reading}
 use Rattle.floyd_text.specs.declared.refusal.Shown.TheVariants.{Nothing}
 use Rattle.floyd_text.specs.Place.{place_at}
+use Rattle.floyd_project.specs.declared.draft.Expected.{Expected}
+use Rattle.floyd_project.specs.declared.draft.Expected.TheVariants.{AModule, ASource, ASpec, AScript}
 use Rattle.floyd_project.specs.declared.module.FileName.{FileName}
 use Rattle.floyd_project.specs.declared.module.Module.{Module}
 use Rattle.floyd_project.specs.Lines.{Line, lines_from, is_blank, is_comment, is_identifier, is_file_name}
@@ -13,13 +15,6 @@ use Rattle.floyd_project.specs.Lines.{Line, lines_from, is_blank, is_comment, is
 abbrev pub name_after : List ℕ → List ℕ → Option (List ℕ)
 name_after word bytes =
     if starts_with nat_eq bytes (word ++ 32 ∷ []) then Some (drop (length word + 1) bytes) else None
-
--- what the next line that is neither blank nor a comment has to be
-pub data Expected : Type 0 where
-  AModule : Expected
-  ASource : (name : List ℕ) → Expected
-  ASpec : (name : List ℕ) → (source : FileName) → Expected
-  AScript : (name : List ℕ) → (source spec : FileName) → Expected
 
 -- a module of this name may begin after these
 abbrev pub may_begin : List Module → List ℕ → Bool
