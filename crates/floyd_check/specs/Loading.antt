@@ -40,14 +40,18 @@ within_all place total bytes = if nat_le total max_files then Ok bytes else Err 
 abbrev pub named_at : List ℕ → FileName → Place
 named_at project file = place_at 0 project file.at
 
+-- the bytes of the file that the project names so, where the files before it have so many bytes
+abbrev pub next_file : Files → List ℕ → ℕ → FileName → Result (List ℕ) Refusal
+next_file held project before f =
+    on_ok (bytes_at (named_at project f) (file_in held f.name)) (λ bytes. within_all (named_at project f) (before + length bytes) bytes)
+
 -- the bytes of these files in order, where those before them have so many bytes
 abbrev pub files_from : Files → List ℕ → ℕ → List FileName → Result (List (List ℕ)) Refusal
 files_from held project before [] = Ok []
 files_from held project before (f ∷ fs) =
-    on_ok (bytes_at (named_at project f) (file_in held f.name)) (λ bytes.
-    on_ok (within_all (named_at project f) (before + length bytes) bytes) (λ bytes.
+    on_ok (next_file held project before f) (λ bytes.
     on_ok (files_from held project (before + length bytes) fs) (λ rest.
-    Ok (bytes ∷ rest))))
+    Ok (bytes ∷ rest)))
 
 -- the files of a module, and of modules
 abbrev pub files_of : Module → List FileName

@@ -2,5 +2,7 @@
 #![tactic(auto)]
 
 mod files;
+mod modules;
 
 pub use files::FileList;
+pub use modules::modules_of;

@@ -5,7 +5,7 @@ use Rattle.floyd_text.specs.declared.refusal.Refusal.{Refusal}
 use Rattle.floyd_text.specs.Outside.{Files, file_in, Rose}
 use Rattle.floyd_project.specs.declared.module.FileName.{FileName}
 use Rattle.floyd_project.specs.Lines.{is_file_name}
-use Rattle.floyd_check.specs.Loading.{bytes_at, named_at, files_from, loaded, names_in}
+use Rattle.floyd_check.specs.Loading.{bytes_at, named_at, next_file, files_from, loaded, names_in}
 use Rattle.floyd_cli.specs.declared.load.LoadStop.{LoadStop}
 use Rattle.floyd_cli.specs.declared.load.LoadStop.TheVariants.{Refused, Fault, Memory}
 use Rattle.floyd_cli.specs.declared.load.Loaded.{Loaded}
@@ -14,6 +14,11 @@ use Rattle.floyd_cli.specs.declared.load.Loaded.{Loaded}
 unfoldable pub HasBytes : Option Files → Place → List ℕ → Result (List ℕ) Refusal → Type 0
 HasBytes None place name r = Unit {0}
 HasBytes (Some files) place name r = bytes_at place (file_in files name) ≡ r
+
+-- the bytes of the next file of a project, where those before it have so many bytes, or its refusal
+unfoldable pub HasNext : Option Files → List ℕ → ℕ → FileName → Result (List ℕ) Refusal → Type 0
+HasNext None project before f r = Unit {0}
+HasNext (Some files) project before f r = next_file files project before f ≡ r
 
 -- the bytes of these files of a project, or the first refusal
 unfoldable pub HasFiles : Option Files → List ℕ → List FileName → Result (List (List ℕ)) Refusal → Type 0
@@ -36,6 +41,12 @@ ReadsFile held place name before now (Ok bytes) = HasBytes held place name (Ok b
 ReadsFile held place name before now (Err (Refused r)) = HasBytes held place name (Err r)
 ReadsFile held place name before now (Err Fault) = Rose before now
 ReadsFile held place name before now (Err Memory) = Unit {0}
+
+abbrev pub ReadsNext : Option Files → List ℕ → ℕ → FileName → ℕ → ℕ → Result (List ℕ) LoadStop → Type 0
+ReadsNext held project total f before now (Ok bytes) = HasNext held project total f (Ok bytes)
+ReadsNext held project total f before now (Err (Refused r)) = HasNext held project total f (Err r)
+ReadsNext held project total f before now (Err Fault) = Rose before now
+ReadsNext held project total f before now (Err Memory) = Unit {0}
 
 abbrev pub ReadsFiles : Option Files → List ℕ → List FileName → ℕ → ℕ → Result (List (List ℕ)) LoadStop → Type 0
 ReadsFiles held project named before now (Ok files) = HasFiles held project named (Ok files)

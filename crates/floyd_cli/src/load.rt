@@ -1,8 +1,9 @@
-ghost use Rattle.std.specs.Prelude.{◌≡◌, ◌+◌, ◌≤◌, IfOk};
+ghost use Rattle.std.specs.Prelude.{◌≡◌, ◌+◌, ◌≤◌, IfOk, true, length};
 ghost use Rattle.std.specs.List.{flat_map};
 ghost use Rattle.floyd_check.specs.Loading.{files_of, named_at, refused};
 ghost use Rattle.floyd_text.specs.Place.{first_place};
-ghost use Rattle.floyd_cli.specs.Loads.{AreNamed, ReadsFile, ReadsFiles};
+ghost use Rattle.floyd_cli.specs.Loads.{AreNamed, ReadsFile, ReadsNext, ReadsFiles};
+ghost use Rattle.floyd_project.specs.Lines.{is_file_name};
 
 use floyd_check::FileList;
 use floyd_project::{FileName, ModuleList};
@@ -80,4 +81,74 @@ fn read_project_file<H: Shelf>(alloc: Global, shelf: &mut H, name: &str) -> Resu
         Err(ReadStop::Fault) => Err(LoadStop::Fault),
         Err(ReadStop::Memory) => Err(LoadStop::Memory),
     }
+}
+
+/// The bytes of a file that the project names. Its place is made only for a refusal.
+#[tactic(auto, using(crate::proofs::LoadLemmas::has_bytes, crate::proofs::LoadLemmas::has_missing, crate::proofs::LoadLemmas::has_large, crate::proofs::LoadLemmas::is_utf8))]
+fn read_named<H: Shelf>(
+    alloc: Global,
+    shelf: &mut H,
+    project: &[u8],
+    file: &FileName,
+) -> Result<Bytes, LoadStop>
+    requires { is_file_name file.now.name ≡ true }
+    ensures gives { ReadsFile (H.held shelf.old) (named_at project.now file.now) file.now.name (H.faults shelf.old) (H.faults shelf.new) result }
+    ensures held { H.held shelf.new ≡ H.held shelf.old }
+    ensures later { H.faults shelf.old ≤ H.faults shelf.new }
+{
+    let Ok(name) = str::from_utf8(file.name.as_slice()) else {
+        unreachable!()
+    };
+    match read_file(alloc, shelf, name) {
+        Ok(bytes) => Ok(bytes),
+        Err(ReadStop::Missing) => Err(LoadStop::Refused(refusal_at(101, place_named(project, file)))),
+        Err(ReadStop::TooLarge) => Err(LoadStop::Refused(refusal_at(102, place_named(project, file)))),
+        Err(ReadStop::Fault) => Err(LoadStop::Fault),
+        Err(ReadStop::Memory) => Err(LoadStop::Memory),
+    }
+}
+
+/// The bytes of the next file of a project, where those before it have so many bytes.
+#[tactic(auto, using(crate::proofs::LoadLemmas::next_within, crate::proofs::LoadLemmas::next_beyond, crate::proofs::LoadLemmas::next_refused))]
+fn read_next<H: Shelf>(
+    alloc: Global,
+    shelf: &mut H,
+    project: &[u8],
+    total: u64,
+    file: &FileName,
+) -> Result<Bytes, LoadStop>
+    requires named { is_file_name file.now.name ≡ true }
+    requires small { total ≤ 16777216 }
+    ensures gives { ReadsNext (H.held shelf.old) project.now total file.now (H.faults shelf.old) (H.faults shelf.new) result }
+    ensures within { IfOk result (λ bytes. total + length bytes ≤ 16777216) }
+    ensures held { H.held shelf.new ≡ H.held shelf.old }
+    ensures later { H.faults shelf.old ≤ H.faults shelf.new }
+{
+    let bytes = read_named(alloc, shelf, project, file)?;
+    if bytes.len() as u64 > MAX_FILES - total {
+        return Err(LoadStop::Refused(refusal_at(104, place_named(project, file))));
+    }
+    Ok(bytes)
+}
+
+/// The bytes of these files of a project.
+fn read_files<H: Shelf>(
+    alloc: Global,
+    shelf: &mut H,
+    project: &[u8],
+    named: &[FileName],
+) -> Result<FileList, LoadStop>
+    requires { AreNamed named.now }
+    ensures gives { ReadsFiles (H.held shelf.old) project.now named.now (H.faults shelf.old) (H.faults shelf.new) result }
+    ensures held { H.held shelf.new ≡ H.held shelf.old }
+    ensures later { H.faults shelf.old ≤ H.faults shelf.new }
+{
+    let mut files = FileList::new(alloc);
+    let mut total = 0;
+    'file: for file in named {
+        let bytes = read_next(alloc, shelf, project, total, file)?;
+        total += bytes.len() as u64;
+        files.push(bytes)?;
+    }
+    Ok(files)
 }

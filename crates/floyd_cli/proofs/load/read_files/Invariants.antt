@@ -1,0 +1,14 @@
+use Rattle.std.proofs.Common.{◌≡◌, ◌≤◌, drop}
+use Rattle.floyd_cli.specs.Loads.{AreNamed}
+use Rattle.floyd_cli.proofs.LoadLemmas.{Leads}
+use Rattle.floyd_cli.proofs.load.read_files.Given as goal
+
+-- the shelf is as it was, the files so far are within the limit, and the rest of them leads to what all give
+abbrev pub invariant-file : goal.invariant-file
+invariant-file g l = record {
+  held : g.H.Shelf.held l.shelf ≡ g.H.Shelf.held l.fn.shelf;
+  later : g.H.Shelf.faults l.fn.shelf ≤ g.H.Shelf.faults l.shelf;
+  small : l.total ≤ 16777216;
+  named : AreNamed (drop l.file-index l.named);
+  leads : Leads (g.H.Shelf.held l.fn.shelf) l.project l.named l.files l.total (drop l.file-index l.named);
+}
