@@ -2,6 +2,8 @@
 use Rattle.std.specs.Prelude.{◌≡◌, ℕ, true, List, [], ◌∷◌, ◌++◌, Option, Some, None, Result, Ok, Err}
 use Rattle.floyd_text.specs.declared.place.Place.{Place}
 use Rattle.floyd_text.specs.declared.refusal.Refusal.{Refusal}
+use Rattle.floyd_text.specs.declared.refusal.Halt.{Halt}
+use Rattle.floyd_text.specs.declared.refusal.Halt.TheVariants as h
 use Rattle.floyd_text.specs.Outside.{Files, file_in, Rose}
 use Rattle.floyd_project.specs.declared.module.FileName.{FileName}
 use Rattle.floyd_project.specs.Lines.{is_file_name}
@@ -64,3 +66,8 @@ Loads held name before now (Err Memory) = Unit {0}
 abbrev pub AreNamed : List FileName → Type 0
 AreNamed [] = Unit {0}
 AreNamed (f ∷ fs) = (is_file_name f.name ≡ true) × AreNamed fs
+
+-- the same stop of a call that reads no file
+abbrev pub stop_of : Halt → LoadStop
+stop_of (h.Refused r) = Refused r
+stop_of h.Memory = Memory

@@ -1,13 +1,14 @@
-ghost use Rattle.std.specs.Prelude.{◌≡◌, ◌+◌, ◌≤◌, IfOk, true, length};
+ghost use Rattle.std.specs.Prelude.{◌≡◌, ◌+◌, ◌≤◌, IfOk, Ok, true, length, map, [], ◌∷◌, ◌++◌};
 ghost use Rattle.std.specs.List.{flat_map};
 ghost use Rattle.floyd_check.specs.Loading.{files_of, named_at, refused};
 ghost use Rattle.floyd_text.specs.Place.{first_place};
-ghost use Rattle.floyd_cli.specs.Loads.{AreNamed, ReadsFile, ReadsNext, ReadsFiles};
+ghost use Rattle.floyd_project.specs.declared.module.FileName.{FileName};
+ghost use Rattle.floyd_cli.specs.Loads.{AreNamed, HasBytes, Loads, ReadsFile, ReadsNext, ReadsFiles, stop_of};
 ghost use Rattle.floyd_project.specs.Lines.{is_file_name};
 
-use floyd_check::FileList;
-use floyd_project::{FileName, ModuleList};
-use floyd_text::{Bytes, Name, Place, ReadStop, Refusal, Rule, Shelf, Shown, place_of, read_file};
+use floyd_check::{FileList, modules_of};
+use floyd_project::{FileName, Module};
+use floyd_text::{Bytes, Halt, Name, Place, ReadStop, Refusal, Rule, Shelf, Shown, place_of, read_file};
 use sqlite_items::Items;
 use std::alloc::{AllocError, Global};
 
@@ -151,4 +152,100 @@ fn read_files<H: Shelf>(
         files.push(bytes)?;
     }
     Ok(files)
+}
+
+/// The same name of a file again.
+fn copy_of(file: &FileName) -> Result<FileName, AllocError>
+    ensures { IfOk result (λ f. f ≡ file.now) }
+{
+    Ok(FileName {
+        name: file.name.share()?,
+        at: file.at,
+    })
+}
+
+/// The files of the modules in order.
+fn files_named(alloc: Global, modules: &[Module]) -> Result<Items<FileName>, AllocError>
+    ensures { IfOk result (λ fs. fs ≡ flat_map files_of modules.now) }
+{
+    let mut files = Items::new(alloc);
+    'module: for module in modules {
+        files.push(copy_of(&module.source)?)?;
+        files.push(copy_of(&module.spec)?)?;
+        files.push(copy_of(&module.script)?)?;
+    }
+    Ok(files)
+}
+
+/// The names of the project and of its files, by their numbers.
+fn names_of(alloc: Global, name: &str, files: &[FileName]) -> Result<NameList, AllocError>
+    ensures { IfOk result (λ names. names ≡ name.now ∷ map (λ (f : FileName). f.name) files.now) }
+{
+    let mut names = NameList::new(alloc);
+    names.push(Name::from_slice(alloc, name.as_bytes())?)?;
+    'file: for file in files {
+        names.push(file.name.share()?)?;
+    }
+    Ok(names)
+}
+
+/// The bytes of the project before those of its files.
+fn with_project(alloc: Global, project: Bytes, others: FileList) -> Result<FileList, AllocError>
+    ensures { IfOk result (λ files. files ≡ project ∷ others) }
+{
+    let mut files = FileList::new(alloc);
+    files.push(project)?;
+    files.append(others)?;
+    Ok(files)
+}
+
+/// The same stop of a call that reads no file.
+fn stop_of(halt: Halt) -> LoadStop
+    ensures { result ≡ stop_of halt }
+{
+    match halt {
+        Halt::Refused(refusal) => LoadStop::Refused(refusal),
+        Halt::Memory => LoadStop::Memory,
+    }
+}
+
+/// Reads the files of the project of that name, which has these bytes.
+fn load_files<H: Shelf>(
+    alloc: Global,
+    shelf: &mut H,
+    name: &str,
+    project: Bytes,
+) -> Result<Loaded, LoadStop>
+    requires { HasBytes (H.held shelf.old) (first_place 0) name.now (Ok project) }
+    ensures gives { Loads (H.held shelf.old) name.now (H.faults shelf.old) (H.faults shelf.new) result }
+    ensures held { H.held shelf.new ≡ H.held shelf.old }
+    ensures later { H.faults shelf.old ≤ H.faults shelf.new }
+{
+    let modules = match modules_of(alloc, project.as_slice()) {
+        Ok(modules) => modules,
+        Err(halt) => return Err(stop_of(halt)),
+    };
+    let named = files_named(alloc, modules.as_slice())?;
+    let names = names_of(alloc, name, named.as_slice())?;
+    match read_files(alloc, shelf, project.as_slice(), named.as_slice()) {
+        Ok(others) => Ok(Loaded {
+            files: with_project(alloc, project, others)?,
+            names,
+        }),
+        Err(stop) => Err(stop),
+    }
+}
+
+/// Reads a project and its files, in the order of the project file. The first file that is missing or too large stops
+/// it: 101 or 102 at the file's name in the project file, 104 where all files together are too large, 103 where the
+/// project file does not read; a refusal of the project itself stands at its first place.
+pub fn load<H: Shelf>(alloc: Global, shelf: &mut H, name: &str) -> Result<Loaded, LoadStop>
+    ensures gives { Loads (H.held shelf.old) name.now (H.faults shelf.old) (H.faults shelf.new) result }
+    ensures held { H.held shelf.new ≡ H.held shelf.old }
+    ensures later { H.faults shelf.old ≤ H.faults shelf.new }
+{
+    match read_project_file(alloc, shelf, name) {
+        Ok(project) => load_files(alloc, shelf, name, project),
+        Err(stop) => Err(stop),
+    }
 }
