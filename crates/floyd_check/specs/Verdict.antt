@@ -1,0 +1,113 @@
+-- The verdict on a project: it is accepted, or refused. The verdict looks at texts and derivations, and at no run.
+use Rattle.std.specs.Prelude.{◌≡◌, ℕ, ◌*◌, List, [], ◌∷◌, ◌++◌, map, length, codes, Option, Some, None, Result, Ok, Err}
+use Rattle.floyd_int.specs.declared.kinds.Value.TheVariants.{Vint as VintValue}
+use Rattle.floyd_text.specs.declared.refusal.Refusal.{Refusal}
+use Rattle.floyd_text.specs.Outside.{Files}
+use Rattle.floyd_text.specs.Place.{first_place}
+use Rattle.floyd_project.specs.declared.module.Module.{Module}
+use Rattle.floyd_clight.specs.declared.syntax.Expr.TheVariants.{Const, Temp}
+use Rattle.floyd_clight.specs.declared.syntax.Stmt.{Stmt, Set as SetStmt, Return as ReturnStmt}
+use Rattle.floyd_assert.specs.declared.funspec.Funspec.{Funspec}
+use Rattle.floyd_assert.specs.declared.funspec.Precondition.TheVariants.{Main as MainPre}
+use Rattle.floyd_assert.specs.declared.term.Term.{Term, Number, Vint}
+use Rattle.floyd_runs.specs.Linked.{Linked, linked, int}
+use Rattle.floyd_goal.specs.declared.script.Command.{Command}
+use Rattle.floyd_goal.specs.declared.script.Proof.{Proof}
+use Rattle.floyd_goal.specs.Derivation.{main_start, played}
+use Rattle.floyd_first.specs.declared.form.Set.{Set}
+use Rattle.floyd_first.specs.declared.form.Main.{Main}
+use Rattle.floyd_first.specs.declared.form.Entry.{Entry}
+use Rattle.floyd_first.specs.declared.form.Script.{Script}
+use Rattle.floyd_first.specs.Forms.{IsMain, IsSpec, IsScript, ReadsAs}
+use Rattle.floyd_check.specs.Loading.{refused, on_ok, modules_of, loaded}
+
+-- what the files of an accepted project say: what main does, and the number that it returns
+pub record Program : Type 0 where
+  pub main : Main
+  pub value : ℕ
+
+-- x = n ;
+abbrev pub statement_of : Set → Stmt
+statement_of s = SetStmt s.name (Const (VintValue s.value) int)
+
+-- the statements of main's body
+abbrev pub statements_of : Main → List Stmt
+statements_of m = map statement_of m.sets ++ ReturnStmt (Some (Temp m.returned int)) ∷ []
+
+-- main is called with no arguments and no memory, and returns the int n
+abbrev pub spec_of : ℕ → Funspec
+spec_of n = record { pre = MainPre; post = record { prop = []; local = []; sep = [] }; value = Vint (Number n) }
+
+-- the linked program that the files stand for
+abbrev pub linked_of : Program → Linked
+linked_of p = linked (statements_of p.main) (spec_of p.value)
+
+-- the commands of the proof of main
+abbrev pub command_of : Entry → Command
+command_of e = record { place = e.place; rule = e.rule }
+
+abbrev pub proof_of : Script → Proof
+proof_of s = record { name = codes "main"; place = s.place; commands = map command_of s.commands; end = s.end }
+
+-- a file of a form that is not built
+abbrev pub not_built : ℕ → Refusal
+not_built file = refused 199 (first_place file)
+
+abbrev pub then_program : Program → Result (Unit {0}) Refusal → Result Program Refusal
+then_program p (Ok u) = Ok p
+then_program p (Err r) = Err r
+
+-- the proof is played on the start that source and specification give
+abbrev pub judged : Main → ℕ → Script → Result Program Refusal
+judged m n s =
+    then_program (record { main = m; value = n }) (played (proof_of s) (main_start (statements_of m) (spec_of n)))
+
+-- what the source, the specification and the script read as is built, in this order, and the proof is a derivation
+abbrev pub built : Option Main → Option ℕ → Option Script → Result Program Refusal
+built None n s = Err (not_built 1)
+built (Some m) None s = Err (not_built 2)
+built (Some m) (Some n) None = Err (not_built 3)
+built (Some m) (Some n) (Some s) = judged m n s
+
+-- the verdict on the three files of a module
+pub record Judges (source spec script : List ℕ) (v : Result Program Refusal) : Type 0 where
+  pub main : Option Main
+  pub value : Option ℕ
+  pub proof : Option Script
+  pub reads_main : ReadsAs (IsMain source) main
+  pub reads_spec : ReadsAs (IsSpec spec) value
+  pub reads_script : ReadsAs (IsScript 3 script) proof
+  pub verdict : v ≡ built main value proof
+
+-- the verdict on the files of the modules
+abbrev pub JudgesModules : Result (List Module) Refusal → List (List ℕ) → Result Program Refusal → Type 0
+JudgesModules (Err r) files v = v ≡ Err r
+JudgesModules (Ok modules) [] v = ⊥
+JudgesModules (Ok modules) (source ∷ []) v = ⊥
+JudgesModules (Ok modules) (source ∷ spec ∷ []) v = ⊥
+JudgesModules (Ok modules) (source ∷ spec ∷ script ∷ []) v = Judges source spec script v
+JudgesModules (Ok modules) (source ∷ spec ∷ script ∷ file ∷ files) v = ⊥
+
+-- the verdict on the bytes of a project and of its files
+abbrev pub JudgesFiles : List (List ℕ) → Result Program Refusal → Type 0
+JudgesFiles [] v = ⊥
+JudgesFiles (project ∷ files) v = JudgesModules (modules_of project) files v
+
+-- the verdict on what was loaded
+abbrev pub JudgesLoaded : Result (List (List ℕ)) Refusal → Result Program Refusal → Type 0
+JudgesLoaded (Err r) v = v ≡ Err r
+JudgesLoaded (Ok files) v = JudgesFiles files v
+
+-- the verdict on the project of that name in the held files
+abbrev pub IsVerdict : Files → List ℕ → Result Program Refusal → Type 0
+IsVerdict held name v = JudgesLoaded (loaded held name) v
+
+-- a project has the three files of each of its modules
+abbrev pub HasAllFiles : Result (List Module) Refusal → List (List ℕ) → Type 0
+HasAllFiles (Err r) files = Unit {0}
+HasAllFiles (Ok modules) files = length files ≡ 3 * length modules
+
+-- The bytes are those of a project, and then of its files in order.
+abbrev pub AreFiles : List (List ℕ) → Type 0
+AreFiles [] = ⊥
+AreFiles (project ∷ files) = HasAllFiles (modules_of project) files
