@@ -1,6 +1,7 @@
 ghost use Rattle.std.specs.Prelude.{◌≡◌, ◌+◌, ◌≤◌, IfOk, Ok, true, length, map, [], ◌∷◌, ◌++◌};
 ghost use Rattle.std.specs.List.{flat_map};
 ghost use Rattle.floyd_check.specs.Loading.{files_of, named_at, refused};
+ghost use Rattle.floyd_check.specs.Verdict.{AreFiles};
 ghost use Rattle.floyd_text.specs.Place.{first_place};
 ghost use Rattle.floyd_project.specs.declared.module.FileName.{FileName};
 ghost use Rattle.floyd_cli.specs.Loads.{AreNamed, HasBytes, Loads, ReadsFile, ReadsNext, ReadsFiles, stop_of};
@@ -141,6 +142,7 @@ fn read_files<H: Shelf>(
 ) -> Result<FileList, LoadStop>
     requires { AreNamed named.now }
     ensures gives { ReadsFiles (H.held shelf.old) project.now named.now (H.faults shelf.old) (H.faults shelf.new) result }
+    ensures len { IfOk result (λ files. length files ≡ length named.now) }
     ensures held { H.held shelf.new ≡ H.held shelf.old }
     ensures later { H.faults shelf.old ≤ H.faults shelf.new }
 {
@@ -218,6 +220,7 @@ fn load_files<H: Shelf>(
 ) -> Result<Loaded, LoadStop>
     requires { HasBytes (H.held shelf.old) (first_place 0) name.now (Ok project) }
     ensures gives { Loads (H.held shelf.old) name.now (H.faults shelf.old) (H.faults shelf.new) result }
+    ensures files { IfOk result (λ loaded. AreFiles loaded.files) }
     ensures held { H.held shelf.new ≡ H.held shelf.old }
     ensures later { H.faults shelf.old ≤ H.faults shelf.new }
 {
@@ -241,6 +244,7 @@ fn load_files<H: Shelf>(
 /// project file does not read; a refusal of the project itself stands at its first place.
 pub fn load<H: Shelf>(alloc: Global, shelf: &mut H, name: &str) -> Result<Loaded, LoadStop>
     ensures gives { Loads (H.held shelf.old) name.now (H.faults shelf.old) (H.faults shelf.new) result }
+    ensures files { IfOk result (λ loaded. AreFiles loaded.files) }
     ensures held { H.held shelf.new ≡ H.held shelf.old }
     ensures later { H.faults shelf.old ≤ H.faults shelf.new }
 {

@@ -1,4 +1,4 @@
-use Rattle.std.proofs.Common.{◌≡◌, ◌+◌, List, [], ◌∷◌, ◌++◌, ℕ, Option, sym, ◌∙◌, subst, refl, arith, Ok, Err, drop, get_or, length}
+use Rattle.std.proofs.Common.{◌≡◌, ◌+◌, List, [], ◌∷◌, ◌++◌, ℕ, Option, sym, ◌∙◌, subst, refl, arith, ap, Ok, Err, drop, get_or, length, length-append}
 use Rattle.floyd_text.specs.Outside.{Files}
 use Rattle.std.proofs.lemmas.Result.{err_from_is_err_and}
 use Rattle.floyd_cli.specs.Loads.{ReadsNext, HasNext}
@@ -10,6 +10,7 @@ file-init g c = record {
   held = refl;
   later = omega arith;
   small = omega arith;
+  len = ap length c.new-files.ensures;
   named = c.requires;
   leads = subst (λ (before : List (List ℕ)). Leads (g.H.Shelf.held c.args.shelf.now) c.args.project.now c.args.named.now before 0 c.args.named.now)
       (sym c.new-files.ensures) (leads_start (g.H.Shelf.held c.args.shelf.now) c.args.project.now c.args.named.now);
@@ -44,6 +45,7 @@ file-preserved g c =
       held = c.in_ok-bytes.ensures.held ∙ c.file.invariant.held;
       later = omega (arith, c.file.invariant.later, c.in_ok-bytes.ensures.later);
       small = omega (arith, c.len.ensures, c.in_ok-bytes.ensures.within);
+      len = ap length c.in_ok-push.ensures.ok ∙ length-append c.file.files (bytes ∷ []) ∙ ap (λ n. n + 1) c.file.invariant.len;
       named = named_more_at named c.file.file-index file c.file-test.true c.file.invariant.named;
       leads = subst (λ (before : List (List ℕ)). Leads held project named before (total + c.len.result) rest) (sym c.in_ok-push.ensures.ok)
           (subst (λ (n : ℕ). Leads held project named (c.file.files ++ bytes ∷ []) (total + n) rest) (sym c.len.ensures) more);

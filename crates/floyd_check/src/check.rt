@@ -1,0 +1,96 @@
+ghost use Rattle.std.specs.Prelude.{◌≡◌};
+ghost use Rattle.floyd_text.specs.Gives.{Gives};
+ghost use Rattle.floyd_check.specs.Checked.{Checks, ChecksModule};
+ghost use Rattle.floyd_check.specs.Verdict as spec;
+ghost use Rattle.floyd_check.specs.Verdict.{AreFiles};
+ghost use Rattle.floyd_goal.specs.Derivation.{main_start, played};
+
+use crate::files::FileList;
+use crate::modules::{first_place, modules_of, refused};
+use crate::program::{main_name, proof_of, spec_of, statements_of};
+use floyd_first::{Main, Script, read_main, read_script, read_spec};
+use floyd_goal::{play, start_goal};
+use floyd_text::{Halt, Name, Refusal};
+use sqlite_items::Items;
+use std::alloc::Global;
+
+/// Names in the order of the project.
+pub type NameList = Items<Name>;
+
+/// A project that was accepted: its name, the names of its functions with a body, what its main does, and the int that
+/// main returns.
+#[derive(Drop)]
+pub struct Accepted {
+    pub project: Name,
+    pub proved: NameList,
+    pub main: Main,
+    pub value: u32,
+}
+
+/// The refusal of a file of a form that is not built.
+fn not_built(file: u32) -> Refusal
+    ensures { result ≡ spec.not_built file }
+{
+    refused(199, first_place(file))
+}
+
+/// Plays the proof of main on the start that its source and its specification give.
+fn judge(alloc: Global, main: &Main, value: u32, script: &Script) -> Result<(), Halt>
+    ensures exact { Gives (λ u. u) result (played (spec.proof_of script.now) (main_start (spec.statements_of main.now) (spec.spec_of value))) }
+{
+    let proof = proof_of(alloc, script)?;
+    let start = start_goal(alloc, statements_of(alloc, main)?, spec_of(alloc, value)?)?;
+    play(alloc, &proof, start)
+}
+
+/// Judges the three files of the one module of a project.
+fn check_module(
+    alloc: Global,
+    project: &Name,
+    source: &[u8],
+    spec: &[u8],
+    script: &[u8],
+) -> Result<Accepted, Halt>
+    ensures { ChecksModule source.now spec.now script.now result }
+{
+    let main = read_main(alloc, source)?;
+    let value = read_spec(alloc, spec)?;
+    let proof = read_script(alloc, 3, script)?;
+    match (main, value, proof) {
+        (None, _, _) => Err(Halt::Refused(not_built(1))),
+        (Some(_), None, _) => Err(Halt::Refused(not_built(2))),
+        (Some(_), Some(_), None) => Err(Halt::Refused(not_built(3))),
+        (Some(main), Some(value), Some(proof)) => {
+            judge(alloc, &main, value, &proof)?;
+            let mut proved = NameList::new(alloc);
+            proved.push(main_name(alloc)?)?;
+            Ok(Accepted {
+                project: project.share()?,
+                proved,
+                main,
+                value,
+            })
+        }
+    }
+}
+
+/// Judges the project of that name, whose bytes and files are given: the project file first, and then the three files
+/// of each of its modules in order. The first refusal in the order of the files is the answer: those of the project
+/// file (103, and 199 for a second module), a source, a specification or a script that is not of the form that is built
+/// (199), and those of the proof of `main` (610, 611, and what its commands refuse).
+///
+/// Where it answers Ok, the program that the files stand for is sound.
+pub fn check_bytes(alloc: Global, project: &Name, files: &FileList) -> Result<Accepted, Halt>
+    requires { AreFiles files.now }
+    ensures { Checks files.now result }
+{
+    let files = files.as_slice();
+    modules_of(alloc, files[0].as_slice())?;
+    check_module(
+        alloc,
+        project,
+        files[1].as_slice(),
+        files[2].as_slice(),
+        files[3].as_slice(),
+    )
+}
