@@ -1,0 +1,7 @@
+//! Tests of the crates of integers and values.
+#![tactic(auto)]
+
+#[cfg(test)]
+mod operators;
+#[cfg(test)]
+mod tables;
