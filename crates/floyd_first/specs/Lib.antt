@@ -1,2 +1,4 @@
+pub mod Cut
 pub mod Forms
+pub mod Reading
 pub mod Spaced

@@ -3,5 +3,14 @@
 #![tactic(auto)]
 
 mod form;
+mod places;
+mod scripts;
+mod sources;
+mod specifications;
+mod token;
+mod word;
 
 pub use form::{Entry, Main, NameList, Script, Set};
+pub use scripts::{one_script, read_script};
+pub use sources::{one_main, read_main};
+pub use specifications::{one_spec, read_spec};

@@ -1,0 +1,7 @@
+pub mod Cut
+pub mod First
+pub mod MainForm
+pub mod Numerals
+pub mod ScriptForm
+pub mod SpecForm
+pub mod Texts

@@ -1,0 +1,132 @@
+-- What the texts of the three forms read as, one after the other.
+use Rattle.std.specs.Prelude.{ℕ, Bool, true, false, ◌+◌, min, ◌==◌, ◌&&◌, not, nat_le, bytes_eq, if◌then◌else◌, List, [], ◌∷◌, ◌++◌, Option, Some, None, codes}
+use Rattle.std.specs.List.{list_any, list_all}
+use Rattle.std.specs.Option.{option_map}
+use Rattle.std.specs.Str.Parse.{digits_value}
+use Rattle.floyd_text.specs.declared.refusal.Rule.{Rule}
+use Rattle.floyd_text.specs.declared.place.Place.{Place}
+use Rattle.floyd_text.specs.Place.{place_at}
+use Rattle.floyd_first.specs.declared.form.Set.{Set}
+use Rattle.floyd_first.specs.declared.form.Main.{Main}
+use Rattle.floyd_first.specs.declared.form.Entry.{Entry}
+use Rattle.floyd_first.specs.declared.form.Script.{Script}
+use Rattle.floyd_first.specs.Spaced.{Token, is_digit}
+use Rattle.floyd_first.specs.Forms.{is_name, rule_of}
+
+-- what follows these texts
+abbrev pub after_all : List (List ℕ) → List (List ℕ) → Option (List (List ℕ))
+after_all [] ts = Some ts
+after_all (w ∷ ws) [] = None
+after_all (w ∷ ws) (t ∷ ts) = if bytes_eq t w then after_all ws ts else None
+
+-- digits, of which the first is no 0 unless it stands alone
+abbrev pub is_numeral : List ℕ → Bool
+is_numeral [] = false
+is_numeral (d ∷ []) = is_digit d
+is_numeral (d ∷ e ∷ ds) = not (d == 48) && list_all is_digit (d ∷ e ∷ ds)
+
+abbrev pub small : ℕ → Option ℕ
+small n = if nat_le n 2147483647 then Some n else None
+
+-- the int whose numeral this is
+abbrev pub int_of : List ℕ → Option ℕ
+int_of text = if is_numeral text then small (digits_value 10 text) else None
+
+abbrev pub can_declare : List (List ℕ) → List ℕ → Bool
+can_declare declared name = is_name name && not (list_any (bytes_eq name) declared)
+
+-- the assignment of these four texts
+abbrev pub set_of : List (List ℕ) → List ℕ → List ℕ → List ℕ → List ℕ → Option Set
+set_of declared name equals value semicolon =
+    if list_any (bytes_eq name) declared && bytes_eq equals (codes "=") && bytes_eq semicolon (codes ";")
+    then option_map (λ n. record { name = name; value = n }) (int_of value)
+    else None
+
+abbrev pub is_nil : List (List ℕ) → Bool
+is_nil [] = true
+is_nil (t ∷ ts) = false
+
+-- the end of a `main` that returns this variable
+abbrev pub ending : List (List ℕ) → List Set → List ℕ → Bool → Option Main
+ending declared sets name closed =
+    if closed && list_any (λ (s : Set). bytes_eq s.name name) sets
+    then Some (record { declared = declared; sets = sets; returned = name })
+    else None
+
+abbrev pub with_set : (Set → Option Main) → Option Set → Option Main
+with_set rest None = None
+with_set rest (Some s) = rest s
+
+-- the `main` whose assignments go on so
+abbrev pub sets_from : List (List ℕ) → List Set → List (List ℕ) → Option Main
+sets_from declared sets (a ∷ b ∷ c ∷ d ∷ ts) =
+    if bytes_eq a (codes "return")
+    then ending declared sets b (bytes_eq c (codes ";") && bytes_eq d (codes "}") && is_nil ts)
+    else with_set (λ s. sets_from declared (sets ++ s ∷ []) ts) (set_of declared a b c d)
+sets_from declared sets short = None
+
+-- the `main` whose declarations go on so
+abbrev pub main_from : List (List ℕ) → List (List ℕ) → Option Main
+main_from declared (a ∷ b ∷ c ∷ ts) =
+    if bytes_eq a (codes "int")
+    then (if bytes_eq c (codes ";") && can_declare declared b then main_from (declared ++ b ∷ []) ts else None)
+    else sets_from declared [] (a ∷ b ∷ c ∷ ts)
+main_from declared short = None
+
+abbrev pub main_head : List (List ℕ)
+main_head = codes "int" ∷ codes "main" ∷ codes "(" ∷ codes "void" ∷ codes ")" ∷ codes "{" ∷ []
+
+abbrev pub main_after : Option (List (List ℕ)) → Option Main
+main_after None = None
+main_after (Some ts) = main_from [] ts
+
+abbrev pub main_of : List (List ℕ) → Option Main
+main_of ts = main_after (after_all main_head ts)
+
+abbrev pub spec_head : List (List ℕ)
+spec_head =
+    codes "DECLARE" ∷ codes "main" ∷ codes "PRE" ∷ codes "[" ∷ codes "]" ∷ codes "MAIN_PRE" ∷ codes "POST" ∷ codes "[" ∷ codes "int"
+    ∷ codes "]" ∷ codes "PROP" ∷ codes "(" ∷ codes ")" ∷ codes "RETURN" ∷ codes "(" ∷ codes "Vint" ∷ codes "(" ∷ []
+
+abbrev pub spec_end : List (List ℕ)
+spec_end = codes ")" ∷ codes ")" ∷ codes "SEP" ∷ codes "(" ∷ codes ")" ∷ codes ";" ∷ []
+
+abbrev pub is_end : Option (List (List ℕ)) → Bool
+is_end None = false
+is_end (Some ts) = is_nil ts
+
+abbrev pub spec_after : Option (List (List ℕ)) → Option ℕ
+spec_after None = None
+spec_after (Some []) = None
+spec_after (Some (n ∷ ts)) = if is_end (after_all spec_end ts) then int_of n else None
+
+abbrev pub spec_of : List (List ℕ) → Option ℕ
+spec_of ts = spec_after (after_all spec_head ts)
+
+abbrev pub with_rule : (Rule → Option Script) → Option Rule → Option Script
+with_rule rest None = None
+with_rule rest (Some rule) = rest rule
+
+-- the rule of a command, if its `;` follows
+abbrev pub command_of : List ℕ → List ℕ → Option Rule
+command_of word semicolon = if bytes_eq semicolon (codes ";") then rule_of word else None
+
+-- the script whose commands go on so
+abbrev pub commands_of : ℕ → List ℕ → List Entry → List Token → Option Script
+commands_of file bytes entries [] = None
+commands_of file bytes entries (q ∷ []) =
+    if bytes_eq q.text (codes "QED") then Some (record { commands = entries; end = place_at file bytes q.at }) else None
+commands_of file bytes entries (c ∷ s ∷ ts) =
+    with_rule (λ r. commands_of file bytes (entries ++ record { rule = r; place = place_at file bytes c.at } ∷ []) ts) (command_of c.text s.text)
+
+abbrev pub script_of : ℕ → List ℕ → List Token → Option Script
+script_of file bytes (proof ∷ name ∷ ts) =
+    if bytes_eq proof.text (codes "PROOF") && bytes_eq name.text (codes "main") then commands_of file bytes [] ts else None
+script_of file bytes short = None
+
+-- the place behind a byte that stands at this place
+abbrev pub next_place : Place → ℕ → Place
+next_place p b =
+    if b == 10
+    then record { file = p.file; line = min (p.line + 1) 4294967295; column = 1 }
+    else record { file = p.file; line = p.line; column = min (p.column + 1) 4294967295 }
