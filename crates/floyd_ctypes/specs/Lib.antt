@@ -1,1 +1,6 @@
--- Definitions that contracts cite.
+pub mod Define
+pub mod Has
+pub mod Layout
+pub mod Path
+pub mod Stored
+pub mod Structs

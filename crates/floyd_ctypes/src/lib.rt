@@ -2,5 +2,19 @@
 #![tactic(auto)]
 
 mod ctype;
+mod define;
+mod field;
+mod fields;
+mod hold;
+mod laid;
+mod layout;
+mod sizes;
+mod table;
 
 pub use ctype::{CType, TypeList};
+pub use define::DefineStop;
+pub use field::{Field, FieldList};
+pub use hold::has;
+pub use layout::Layout;
+pub use sizes::MAX_OBJECT;
+pub use table::StructTable;

@@ -1,0 +1,19 @@
+use crate::field::FieldList;
+use crate::layout::Layout;
+use floyd_text::Name;
+use indexmap::IndexMap;
+
+/// A field's index among the fields of its struct, and its offset.
+#[derive(Clone, Copy, Debug)]
+pub(crate) struct FieldPlace {
+    pub(crate) index: usize,
+    pub(crate) offset: u64,
+}
+
+/// A complete struct: its fields, how it lies in memory, and the place of the first field of each name.
+#[derive(Drop)]
+pub(crate) struct Laid {
+    pub(crate) fields: FieldList,
+    pub(crate) layout: Layout,
+    pub(crate) places: IndexMap<Name, FieldPlace>,
+}

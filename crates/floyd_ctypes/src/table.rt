@@ -1,0 +1,153 @@
+ghost use Rattle.std.specs.Prelude.{◌≡◌, ◌<◌, ◌^◌, [], length, All, IsTrue, IfSome, IfNone, None, Some, OnOk, OnErr, ℕ, List, slice_get, bytes_eq};
+ghost use Rattle.std.specs.List.{IsDistinct};
+ghost use Rattle.std.specs.Option.{option_copied};
+ghost use Rattle.indexmap.specs.IndexMap.{insert_entry};
+ghost use Rattle.floyd_ctypes.specs.Stored.{PutsEntry};
+ghost use Rattle.floyd_ctypes.specs.Structs.{tags, has_tag, is_complete as is_complete_lem, fields_of};
+ghost use Rattle.floyd_ctypes.specs.Layout.{type_fits, IsLaidOut};
+ghost use Rattle.floyd_ctypes.specs.declared.field.Field.{Field};
+ghost use Rattle.floyd_ctypes.specs.Define.{declared, completed, refusal, Answers};
+
+use crate::define::DefineStop;
+use crate::field::FieldList;
+use crate::laid::Laid;
+use floyd_text::Name;
+use indexmap::IndexMap;
+use std::alloc::{AllocError, Global};
+use std::marker::Model;
+
+/// The structs of a program by tag, in the order in which their tags were first seen.
+#[derive(Drop)]
+pub struct StructTable {
+    structs: IndexMap<Name, Option<Laid>>,
+    alloc: Global,
+}
+
+impl Model for StructTable {
+    ghost use Rattle.floyd_ctypes.specs.Stored.{seen, IsTable};
+    ghost use Rattle.floyd_ctypes.specs.Structs.{Structs};
+    ghost use Rattle.std.specs.Coded.{codes};
+    ghost use Rattle.floyd_ctypes.specs.contracts.ctype.CType as ctype;
+
+    ghost Value = { Structs };
+
+    ghost coded = { Prim.hlevel (codes, ctype.the_row.coded) };
+
+    ghost view = { λ t. seen t.structs.entries };
+
+    ghost invariant = { λ t. IsTable t.structs.entries };
+}
+
+impl StructTable {
+    ghost use Rattle.floyd_ctypes.specs.Stored.{IsLaid};
+
+    pub fn new(alloc: Global) -> StructTable
+        ensures { result ≡ [] }
+    {
+        StructTable {
+            structs: IndexMap::new(alloc),
+            alloc,
+        }
+    }
+
+    /// Does nothing: its clause says what is known of all structs of a table at once.
+    pub fn laws(&self)
+        ensures { (tag : List ℕ) (fields : List Field) → fields_of self.now tag ≡ Some fields → IsLaidOut self.now tag fields }
+    {
+        let _structs = &self.structs;
+    }
+
+    /// The number of tags.
+    pub fn len(&self) -> usize
+        ensures value { result ≡ length self.now }
+        ensures unique { IsDistinct bytes_eq (tags self.now) }
+    {
+        self.structs.len()
+    }
+
+    /// The tag at that index, in the order in which they were declared.
+    pub fn tag_at(&self, index: usize) -> Option<&Name>
+        ensures { option_copied result ≡ slice_get (tags self.now) index }
+    {
+        let (tag, _kept) = self.structs.get_index(index)?;
+        Some(tag)
+    }
+
+    /// Whether the tag was declared.
+    pub fn contains(&self, tag: &Name) -> bool
+        ensures { result ≡ has_tag self.now tag.now }
+    {
+        self.structs.contains_key(tag)
+    }
+
+    pub(crate) fn alloc(&self) -> Global {
+        self.alloc
+    }
+
+    /// What is kept of a complete struct.
+    pub(crate) fn laid(&self, tag: &Name) -> Option<&Laid>
+        ensures some { IfSome result (λ laid. IsLaid self.now tag.now laid.now) }
+        ensures none { IfNone result (fields_of self.now tag.now ≡ None) }
+    {
+        let kept = self.structs.get(tag)?;
+        kept.as_ref()
+    }
+
+    /// Whether the struct of that tag is complete.
+    pub fn is_complete(&self, tag: &Name) -> bool
+        ensures { result ≡ is_complete_lem self.now tag.now }
+    {
+        self.laid(tag).is_some()
+    }
+
+    /// Adds the tag as that of an incomplete struct, or changes nothing where it is there.
+    pub fn declare(&mut self, tag: &Name) -> Result<(), AllocError>
+        ensures ok { OnOk result (self.new ≡ declared self.old tag.now) }
+        ensures err { OnErr result (self.new ≡ self.old) }
+    {
+        if !self.contains(tag) {
+            put(&mut self.structs, tag, None)?;
+        }
+        Ok(())
+    }
+
+    /// Gives the struct its fields. After a refusal the table is as before.
+    pub fn complete(&mut self, tag: &Name, fields: FieldList) -> Result<(), DefineStop>
+        requires there { IsTrue (has_tag self.old tag.now) }
+        requires some { 0 < length fields }
+        requires few { length fields < 2 ^ 31 }
+        requires fits { All (λ f. IsTrue (type_fits self.old f.ty)) fields }
+        ensures ok { OnOk result (self.new ≡ completed self.old tag.now fields) }
+        ensures err { OnErr result (self.new ≡ self.old) }
+        ensures answer { Answers result (refusal self.old tag.now fields) }
+    {
+        if self.is_complete(tag) {
+            return Err(DefineStop::Again);
+        }
+        let Some(layout) = self.layout_of_fields(fields.as_slice()) else {
+            return Err(DefineStop::Incomplete);
+        };
+        let places = self.places_of_fields(fields.as_slice())?;
+        let laid = Laid {
+            fields,
+            layout,
+            places,
+        };
+        put(&mut self.structs, tag, Some(laid))?;
+        Ok(())
+    }
+}
+
+/// Keeps this for the tag, which goes last if it is new.
+fn put(
+    structs: &mut IndexMap<Name, Option<Laid>>,
+    tag: &Name,
+    kept: Option<Laid>,
+) -> Result<(), AllocError>
+    ensures ok { OnOk result (structs.new.entries ≡ insert_entry bytes_eq structs.old.entries tag.now kept) }
+    ensures updates { OnOk result (PutsEntry structs.old.entries tag.now kept structs.new.entries) }
+    ensures err { OnErr result (structs.new.entries ≡ structs.old.entries) }
+{
+    let _before = structs.insert(tag.share()?, kept)?;
+    Ok(())
+}
