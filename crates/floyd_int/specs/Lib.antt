@@ -1,3 +1,4 @@
 -- Definitions that contracts cite.
 pub mod Kind
+pub mod Laws
 pub mod Operation

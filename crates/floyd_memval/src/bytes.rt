@@ -21,3 +21,30 @@ pub enum Chunk {
     I64,
     Ptr,
 }
+
+impl Chunk {
+    ghost use Rattle.std.specs.Prelude.{◌≡◌};
+    ghost use Rattle.floyd_memval.specs.Chunks.{chunk_size, is_narrow};
+
+    /// How many bytes the chunk has, which is also its alignment.
+    pub fn size(self) -> usize
+        ensures { result ≡ chunk_size self }
+    {
+        match self {
+            Chunk::I8 | Chunk::U8 => 1,
+            Chunk::I16 | Chunk::U16 => 2,
+            Chunk::I32 => 4,
+            Chunk::I64 | Chunk::Ptr => 8,
+        }
+    }
+
+    /// Whether a number at this chunk is a `Vint`, and not a `Vlong`.
+    pub fn is_narrow(self) -> bool
+        ensures { result ≡ is_narrow self }
+    {
+        match self {
+            Chunk::I8 | Chunk::U8 | Chunk::I16 | Chunk::U16 | Chunk::I32 => true,
+            Chunk::I64 | Chunk::Ptr => false,
+        }
+    }
+}
