@@ -1,0 +1,136 @@
+-- LOCAL after a temporary is set, terms of expressions, and equations of two LOCALs.
+use Rattle.std.proofs.Common.{◌≡◌, ℕ, ◌%◌, ◌^◌, ◌<◌, Bool, true, false, cond, List, [], ◌∷◌, Option, Some, None, Result, Ok, Err, refl, sym, ◌∙◌, subst, ap, bytes_eq}
+use Rattle.std.proofs.Math.Nat.{mod-eq_of_lt}
+use Rattle.std.proofs.lemmas.Bool.{ltb-true}
+use Rattle.std.proofs.lemmas.Slice.Eq.{bytes_eq-Decides}
+use Rattle.std.specs.Prelude.{nat_lt}
+use Rattle.floyd_text.specs.declared.refusal.No.{No}
+use Rattle.floyd_int.specs.declared.kinds.Value.{Value}
+use Rattle.floyd_int.specs.declared.kinds.Value.TheVariants.{Vundef, Vint as VintValue, Vlong, Vptr}
+use Rattle.floyd_clight.specs.declared.syntax.Expr.{Expr}
+use Rattle.floyd_clight.specs.declared.syntax.Expr.TheVariants.{Const, Temp}
+use Rattle.floyd_clight.specs.Evaluation.{Ident, Temps, Look, with_temp, eval_by}
+use Rattle.floyd_assert.specs.declared.term.Term.{Term, Number, Vint}
+use Rattle.floyd_assert.specs.declared.formula.Formula.{Formula, Equal}
+use Rattle.floyd_assert.specs.LocalTerms.{Locals, term_of, with_local}
+use Rattle.floyd_assert.specs.Data.{Env, Num, Val, value}
+use Rattle.floyd_assert.specs.Truth.{Truth, AllTrue}
+use Rattle.floyd_assert.specs.Assertions.{LocalsHold}
+use Rattle.floyd_assert.proofs.TermLaws.{value_vint}
+use Rattle.floyd_goal.specs.Rows.{wrong_goal, no_temp, no_local, or_refused, evaluate, and_then, equation, and_more, equations}
+
+same_name : (y z : Ident) → bytes_eq y z ≡ true → y ≡ z
+same_name y z e = (bytes_eq-Decides y z).0 e
+
+-- two tests of one name
+abbrev TwoTests : Bool → Bool → Option Term → Option Term → Option Term → Type 0
+TwoTests b c t s u = cond c s (cond b t u) ≡ cond b t (cond c s u)
+
+two_tests : (b c : Bool) (t s u : Option Term) → (b ≡ true → c ≡ true → ⊥) → TwoTests b c t s u
+two_tests true true t s u e = absurd (e refl refl)
+two_tests true false t s u e = refl
+two_tests false true t s u e = refl
+two_tests false false t s u e = refl
+
+same_test : (b : Bool) (t s u : Option Term) → cond b t u ≡ cond b t (cond b s u)
+same_test true t s u = refl
+same_test false t s u = refl
+
+-- the names are the same
+set_here : (z y : Ident) (t : Term) (l : Ident × Term) (ls : Locals) → y ≡ l.0 → term_of z ((l.0, t) ∷ ls) ≡ cond (bytes_eq z y) (Some t) (term_of z (l ∷ ls))
+set_here z y t l ls e =
+    subst (λ n. term_of z ((l.0, t) ∷ ls) ≡ cond (bytes_eq z n) (Some t) (term_of z (l ∷ ls))) (sym e)
+    (same_test (bytes_eq z l.0) (Some t) (Some l.1) (term_of z ls))
+
+-- the names are not
+set_there : (z y : Ident) (t : Term) (l : Ident × Term) (ls : Locals) → bytes_eq y l.0 ≡ false → term_of z (with_local y t ls) ≡ cond (bytes_eq z y) (Some t) (term_of z ls) → term_of z (l ∷ with_local y t ls) ≡ cond (bytes_eq z y) (Some t) (term_of z (l ∷ ls))
+set_there z y t l ls e f =
+    ap (cond (bytes_eq z l.0) (Some l.1)) f
+    ∙ two_tests (bytes_eq z y) (bytes_eq z l.0) (Some t) (Some l.1) (term_of z ls)
+      (λ p q. let r : y ≡ l.0 = sym (same_name z y p) ∙ same_name z l.0 q in
+        let s : bytes_eq y l.0 ≡ true = (bytes_eq-Decides y l.0).1 r in cc)
+
+set_either : (z y : Ident) (t : Term) (l : Ident × Term) (ls : Locals) (b : Bool) → bytes_eq y l.0 ≡ b → term_of z (with_local y t ls) ≡ cond (bytes_eq z y) (Some t) (term_of z ls) → term_of z (cond b ((l.0, t) ∷ ls) (l ∷ with_local y t ls)) ≡ cond (bytes_eq z y) (Some t) (term_of z (l ∷ ls))
+set_either z y t l ls true e f = set_here z y t l ls (same_name y l.0 e)
+set_either z y t l ls false e f = set_there z y t l ls e f
+
+-- what LOCAL says of z after y is set
+term_of_set : (z y : Ident) (t : Term) (ls : Locals) → term_of z (with_local y t ls) ≡ cond (bytes_eq z y) (Some t) (term_of z ls)
+term_of_set z y t [] = refl
+term_of_set z y t (l ∷ ls) = set_either z y t l ls (bytes_eq y l.0) refl (term_of_set z y t ls)
+
+set_value : (x : Env) (t s : Term) (v w : Value) (o : Option Term) (b : Bool) → value x t ≡ Val v → (o ≡ Some s → value x s ≡ Val w) → cond b (Some t) o ≡ Some s → value x s ≡ Val (cond b v w)
+set_value x t s v w o true e f g = let p : t ≡ s = cc in subst (λ r. value x r ≡ Val v) p e
+set_value x t s v w o false e f g = f g
+
+-- LOCAL after a set
+pub set_holds : (x : Env) (ls : Locals) (temps : Temps) (y : Ident) (t : Term) (v : Value) → LocalsHold x ls temps → value x t ≡ Val v → LocalsHold x (with_local y t ls) (with_temp y v temps)
+set_holds x ls temps y t v h e =
+    record { each = λ z s p. set_value x t s v (temps z) (term_of z ls) (bytes_eq z y) e (h.each z s) (sym (term_of_set z y t ls) ∙ p) }
+
+-- an expression has a value, for which its term stands
+pub record Evaluates (x : Env) (look : Look) (temps : Temps) (e : Expr) (t : Term) : Type 0 where
+  pub result : Value
+  pub is : eval_by look temps e ≡ Some result
+  pub stands : value x t ≡ Val result
+
+constant : (x : Env) (look : Look) (temps : Temps) (e : Expr) (n : ℕ) (t : Term) (b : Bool) → eval_by look temps e ≡ Some (VintValue n) → nat_lt n (2 ^ 32) ≡ b → cond b (Ok (Vint (Number n))) (Err wrong_goal) ≡ Ok t → Evaluates x look temps e t
+constant x look temps e n t true i f g =
+    let p : Vint (Number n) ≡ t = cc in
+    record {
+      result = VintValue n;
+      is = i;
+      stands = subst (λ s. value x s ≡ Val (VintValue n)) p (value_vint x (Number n) ∙ ap (λ k. Val (VintValue k)) (mod-eq_of_lt (ltb-true n (2 ^ 32) f)));
+    }
+constant x look temps e n t false i f g = cc
+
+found : (x : Env) (look : Look) (temps : Temps) (e : Expr) (y : Ident) (t : Term) (o : Option Term) → eval_by look temps e ≡ Some (temps y) → (o ≡ Some t → value x t ≡ Val (temps y)) → or_refused (no_temp y) o ≡ Ok t → Evaluates x look temps e t
+found x look temps e y t None i f g = cc
+found x look temps e y t (Some s) i f g = let p : Some s ≡ Some t = cc in record { result = temps y; is = i; stands = f p }
+
+pub evaluate_holds : (x : Env) (look : Look) (ls : Locals) (temps : Temps) (e : Expr) (t : Term) → LocalsHold x ls temps → evaluate ls e ≡ Ok t → Evaluates x look temps e t
+evaluate_holds x look ls temps (Const Vundef ty) t h e = cc
+evaluate_holds x look ls temps (Const (VintValue n) ty) t h e = constant x look temps (Const (VintValue n) ty) n t (nat_lt n (2 ^ 32)) refl refl e
+evaluate_holds x look ls temps (Const (Vlong n) ty) t h e = cc
+evaluate_holds x look ls temps (Const (Vptr b o) ty) t h e = cc
+evaluate_holds x look ls temps (Temp y ty) t h e = found x look temps (Temp y ty) y t (term_of y ls) refl (h.each y t) e
+
+-- an equation of two LOCALs
+equation_true : (x : Env) (temps : Temps) (y : Ident) (t : Term) (f : Formula) (o : Option Term) → ((s : Term) → o ≡ Some s → value x s ≡ Val (temps y)) → and_then (or_refused (no_local y) o) (λ s. Ok (Equal s t)) ≡ Ok f → Truth x f → value x t ≡ Val (temps y)
+equation_true x temps y t f None h e p = cc
+equation_true x temps y t f (Some s) h e p =
+    let q : f ≡ Equal s t = cc in
+    sym (subst (Truth x) q p) ∙ h s refl
+
+-- the first of the equations, and the others
+pub record Parts (r : Result Formula No) (rs : Result (List Formula) No) (fs : List Formula) : Type 0 where
+  pub first : Formula
+  pub others : List Formula
+  pub is_first : r ≡ Ok first
+  pub is_others : rs ≡ Ok others
+  pub all : fs ≡ first ∷ others
+
+parts_of : (r : Result Formula No) (rs : Result (List Formula) No) (fs : List Formula) → and_more r rs ≡ Ok fs → Parts r rs fs
+parts_of (Err e) rs fs p = cc
+parts_of (Ok f) (Err e) fs p = cc
+parts_of (Ok f) (Ok gs) fs p = record { first = f; others = gs; is_first = refl; is_others = refl; all = cc }
+
+either_value : (x : Env) (temps : Temps) (y z : Ident) (t s : Term) (o : Option Term) (b : Bool) → bytes_eq y z ≡ b → value x t ≡ Val (temps z) → (o ≡ Some s → value x s ≡ Val (temps y)) → cond b (Some t) o ≡ Some s → value x s ≡ Val (temps y)
+either_value x temps y z t s o true e f g p =
+    let q : t ≡ s = cc in
+    let r : z ≡ y = sym (same_name y z e) in
+    subst (λ u. value x u ≡ Val (temps y)) q (f ∙ ap (λ n. Val (temps n)) r)
+either_value x temps y z t s o false e f g p = g p
+
+equations_each : (x : Env) (temps : Temps) (source target : Locals) (fs : List Formula) → LocalsHold x source temps → equations source target ≡ Ok fs → AllTrue x fs → (y : Ident) (s : Term) → term_of y target ≡ Some s → value x s ≡ Val (temps y)
+equations_each x temps source [] fs h e p y s q = cc
+equations_each x temps source (l ∷ ls) fs h e p y s q =
+    let r = parts_of (equation source l.0 l.1) (equations source ls) fs e in
+    let a = subst (AllTrue x) r.all p in
+    either_value x temps y l.0 l.1 s (term_of y ls) (bytes_eq y l.0) refl
+    (equation_true x temps l.0 l.1 r.first (term_of l.0 source) (h.each l.0) r.is_first a.0)
+    (equations_each x temps source ls r.others h r.is_others a.1 y s) q
+
+-- where the source's LOCAL and the equations hold, the target's does
+pub equations_hold : (x : Env) (temps : Temps) (source target : Locals) (fs : List Formula) → LocalsHold x source temps → equations source target ≡ Ok fs → AllTrue x fs → LocalsHold x target temps
+equations_hold x temps source target fs h e p = record { each = equations_each x temps source target fs h e p }

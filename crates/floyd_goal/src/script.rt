@@ -1,0 +1,20 @@
+use floyd_text::{Name, Place, Rule};
+use sqlite_items::Items;
+
+/// A command of a script.
+#[derive(Clone, Copy, PartialEq, Eq, Debug)]
+pub struct Command {
+    pub place: Place,
+    pub rule: Rule,
+}
+
+pub type CommandList = Items<Command>;
+
+/// A proof of a script: its name, the name's place, its commands, and the place of its `QED`.
+#[derive(Debug, Drop)]
+pub struct Proof {
+    pub name: Name,
+    pub place: Place,
+    pub commands: CommandList,
+    pub end: Place,
+}

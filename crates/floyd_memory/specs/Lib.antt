@@ -1,0 +1,2 @@
+-- The memory of the machine.
+pub mod Memory
