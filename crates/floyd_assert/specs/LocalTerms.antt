@@ -15,4 +15,3 @@ term_of x (l ∷ ls) = if bytes_eq x l.0 then Some l.1 else term_of x ls
 abbrev pub with_local : Ident → Term → Locals → Locals
 with_local x t [] = (x, t) ∷ []
 with_local x t (l ∷ ls) = if bytes_eq x l.0 then (l.0, t) ∷ ls else l ∷ with_local x t ls
-

@@ -26,3 +26,11 @@ abbrev pub ChecksModule : List ℕ → List ℕ → List ℕ → Result Accepted
 ChecksModule source spec script (Ok a) = Judges source spec script (Ok (program_of a)) × IsAccepted a
 ChecksModule source spec script (Err (Refused r)) = Judges source spec script (Err r)
 ChecksModule source spec script (Err Memory) = Unit {0}
+
+-- the same of files in order
+abbrev pub ChecksThree : List (List ℕ) → Result Accepted Halt → Type 0
+ChecksThree [] r = ⊥
+ChecksThree (source ∷ []) r = ⊥
+ChecksThree (source ∷ spec ∷ []) r = ⊥
+ChecksThree (source ∷ spec ∷ script ∷ []) r = ChecksModule source spec script r
+ChecksThree (source ∷ spec ∷ script ∷ file ∷ files) r = ⊥

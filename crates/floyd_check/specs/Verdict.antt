@@ -47,7 +47,7 @@ abbrev pub command_of : Entry → Command
 command_of e = record { place = e.place; rule = e.rule }
 
 abbrev pub proof_of : Script → Proof
-proof_of s = record { name = codes "main"; place = s.place; commands = map command_of s.commands; end = s.end }
+proof_of s = record { name = codes "main"; commands = map command_of s.commands; end = s.end }
 
 -- a file of a form that is not built
 abbrev pub not_built : ℕ → Refusal

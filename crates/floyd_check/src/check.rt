@@ -1,6 +1,6 @@
-ghost use Rattle.std.specs.Prelude.{◌≡◌};
+ghost use Rattle.std.specs.Prelude.{◌≡◌, length};
 ghost use Rattle.floyd_text.specs.Gives.{Gives};
-ghost use Rattle.floyd_check.specs.Checked.{Checks, ChecksModule};
+ghost use Rattle.floyd_check.specs.Checked.{Checks, ChecksModule, ChecksThree};
 ghost use Rattle.floyd_check.specs.Verdict as spec;
 ghost use Rattle.floyd_check.specs.Verdict.{AreFiles};
 ghost use Rattle.floyd_goal.specs.Derivation.{main_start, played};
@@ -9,8 +9,9 @@ use crate::files::FileList;
 use crate::modules::{first_place, modules_of, refused};
 use crate::program::{main_name, proof_of, spec_of, statements_of};
 use floyd_first::{Main, Script, read_main, read_script, read_spec};
-use floyd_goal::{play, start_goal};
-use floyd_text::{Halt, Name, Refusal};
+use floyd_goal::start_goal;
+use floyd_play::play;
+use floyd_text::{Bytes, Halt, Name, Refusal};
 use sqlite_items::Items;
 use std::alloc::Global;
 
@@ -74,6 +75,20 @@ fn check_module(
     }
 }
 
+/// Judges the files of the one module of a project: its source, its specification and its script.
+fn check_files(alloc: Global, project: &Name, files: &[Bytes]) -> Result<Accepted, Halt>
+    requires { length files.now ≡ 3 }
+    ensures { ChecksThree files.now result }
+{
+    check_module(
+        alloc,
+        project,
+        files[0].as_slice(),
+        files[1].as_slice(),
+        files[2].as_slice(),
+    )
+}
+
 /// Judges the project of that name, whose bytes and files are given: the project file first, and then the three files
 /// of each of its modules in order. The first refusal in the order of the files is the answer: those of the project
 /// file (103, and 199 for a second module), a source, a specification or a script that is not of the form that is built
@@ -84,13 +99,9 @@ pub fn check_bytes(alloc: Global, project: &Name, files: &FileList) -> Result<Ac
     requires { AreFiles files.now }
     ensures { Checks files.now result }
 {
-    let files = files.as_slice();
-    modules_of(alloc, files[0].as_slice())?;
-    check_module(
-        alloc,
-        project,
-        files[1].as_slice(),
-        files[2].as_slice(),
-        files[3].as_slice(),
-    )
+    let Some((bytes, files)) = files.as_slice().split_first() else {
+        unreachable!()
+    };
+    modules_of(alloc, bytes.as_slice())?;
+    check_files(alloc, project, files)
 }

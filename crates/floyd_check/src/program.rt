@@ -67,7 +67,6 @@ pub(crate) fn proof_of(alloc: Global, script: &Script) -> Result<Proof, AllocErr
 {
     Ok(Proof {
         name: main_name(alloc)?,
-        place: script.place,
         commands: commands_of(alloc, script.commands.as_slice())?,
         end: script.end,
     })

@@ -1,2 +1,4 @@
+pub mod Answering
 pub mod LoadLemmas
 pub mod ProjectLemmas
+pub mod Writing

@@ -1,3 +1,5 @@
+pub mod Causes
+pub mod Judging
 pub mod Loads
 pub mod Texts
 pub mod Words

@@ -91,18 +91,20 @@ shown_text (Part k) = codes " part " ++ decimal k
 shown_text (Hypothesis k) = codes " hypothesis " ++ decimal k
 
 -- FILE:LINE:COLUMN
-abbrev pub place_text : List (List ℕ) → Place → List ℕ
-place_text names place =
-    file_name names place.file ++ 58 ∷ [] ++ decimal place.line ++ 58 ∷ [] ++ decimal place.column
+abbrev pub place_text : List ℕ → Place → List ℕ
+place_text file place = file ++ 58 ∷ [] ++ decimal place.line ++ 58 ∷ [] ++ decimal place.column
 
 -- FILE:LINE:COLUMN: CODE NAME
-abbrev pub head_text : List (List ℕ) → Refusal → List ℕ
-head_text names r = place_text names r.place ++ codes ": " ++ decimal r.code ++ 32 ∷ [] ++ code_name r.code
+abbrev pub head_text : List ℕ → Refusal → List ℕ
+head_text file r = place_text file r.place ++ codes ": " ++ decimal r.code ++ 32 ∷ [] ++ code_name r.code
 
 -- the same, and then the command, the goal and what is shown
+abbrev pub line_text : List ℕ → Refusal → List ℕ
+line_text file r = head_text file r ++ rule_text (command_word r.rule) ++ goal_text r.goal ++ shown_text r.shown ++ 10 ∷ []
+
+-- the line of a refusal, where the files have these names
 abbrev pub refusal_text : List (List ℕ) → Refusal → List ℕ
-refusal_text names r =
-    head_text names r ++ rule_text (command_word r.rule) ++ goal_text r.goal ++ shown_text r.shown ++ 10 ∷ []
+refusal_text names r = line_text (file_name names r.place.file) r
 
 -- `proved NAME`, a line for each function with a body in the order of the project, then `accepted`
 abbrev pub proved_text : List (List ℕ) → List ℕ

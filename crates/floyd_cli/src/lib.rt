@@ -2,5 +2,10 @@
 #![tactic(auto)]
 
 mod load;
+mod status;
 mod texts;
+mod top;
 mod words;
+
+pub use status::Status;
+pub use top::floyd;

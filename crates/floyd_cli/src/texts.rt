@@ -92,7 +92,7 @@ fn put_file(out: &mut Bytes, names: &[Name], file: u32) -> Result<(), AllocError
 
 /// Puts `FILE:LINE:COLUMN` at the end.
 fn put_place(alloc: Global, out: &mut Bytes, names: &[Name], place: Place) -> Result<(), AllocError>
-    ensures { OnOk result (out.new ≡ out.old ++ spec.place_text names.now place) }
+    ensures { OnOk result (out.new ≡ out.old ++ spec.place_text (spec.file_name names.now place.file) place) }
 {
     put_file(out, names, place.file)?;
     out.push(b':')?;
@@ -151,7 +151,7 @@ fn put_goal(alloc: Global, out: &mut Bytes, goal: u32) -> Result<(), AllocError>
 
 /// Puts `FILE:LINE:COLUMN: CODE NAME` at the end.
 fn put_head(alloc: Global, out: &mut Bytes, names: &[Name], refusal: &Refusal) -> Result<(), AllocError>
-    ensures { OnOk result (out.new ≡ out.old ++ spec.head_text names.now refusal.now) }
+    ensures { OnOk result (out.new ≡ out.old ++ spec.head_text (spec.file_name names.now refusal.now.place.file) refusal.now) }
 {
     put_place(alloc, out, names, refusal.place)?;
     out.extend(": ".as_bytes())?;

@@ -1,18 +1,18 @@
-ghost use Rattle.std.specs.Prelude.{◌≡◌, map, Ok, None};
+ghost use Rattle.std.specs.Prelude.{◌≡◌, ◌≢◌, ◌≤◌, [], ◌∷◌, map, None, IfOk};
 ghost use Rattle.std.specs.String.{string_bytes};
 ghost use Rattle.floyd_text.specs.Outside.{Rose};
-ghost use Rattle.floyd_check.specs.Checked.{Checks};
 ghost use Rattle.floyd_check.specs.Verdict.{AreFiles};
 ghost use Rattle.floyd_cli.specs.Causes.{Causes};
-ghost use Rattle.floyd_cli.specs.Judging.{JudgesLoaded, JudgesProject, WritesAnswer};
+ghost use Rattle.floyd_cli.specs.Judging.{JudgedFiles, GivesAnswer, Writes, WritesUsage, ChecksProject};
+ghost use Rattle.floyd_cli.specs.Texts.{refusal_text};
 ghost use Rattle.floyd_cli.specs.Words.{wrong_word as wrong_word_lem, project_in};
 
-use crate::load::{LoadStop, Loaded, load};
+use crate::load::{LoadStop, Loaded, NameList, load};
 use crate::status::Status;
 use crate::texts::{accepted_lines, refusal_line, usage_line};
 use crate::words::wrong_word;
 use floyd_check::check_bytes;
-use floyd_text::{Bytes, Halt, Name, Shelf, Sink, put_all};
+use floyd_text::{Bytes, Halt, Name, Refusal, Shelf, Sink, put_all};
 use std::alloc::{AllocError, Global};
 
 /// A status and its text, before it is written.
@@ -71,7 +71,7 @@ fn refuse(alloc: Global, name: &str, refusal: &Refusal) -> Result<Answer, AllocE
 }
 
 /// The answer to the project of that name.
-fn answer<H: Shelf>(alloc: Global, shelf: &mut H, name: &str) -> Result<Answer, AnswerStop>
+fn answer_project<H: Shelf>(alloc: Global, shelf: &mut H, name: &str) -> Result<Answer, AnswerStop>
     ensures gives { GivesAnswer (H.held shelf.old) name.now (H.faults shelf.old) (H.faults shelf.new) result }
     ensures later { H.faults shelf.old ≤ H.faults shelf.new }
 {
@@ -102,5 +102,43 @@ fn project_word(words: &[String]) -> &str
     match words {
         [_, project] => project.as_str(),
         _ => unreachable!(),
+    }
+}
+
+/// Writes the line for a command line that is none.
+fn write_usage<K: Sink>(alloc: Global, out: &mut K, word: u64) -> Status
+    ensures { WritesUsage word (Rose (K.faults out.old) (K.faults out.new)) (K.written out.old) (K.written out.new) result }
+{
+    match usage_line(alloc, word) {
+        Ok(text) => write(out, text.as_slice(), Status::Usage),
+        Err(_) => Status::NoMemory,
+    }
+}
+
+/// Checks the project of that name, and writes the verdict.
+fn check<H: Shelf, K: Sink>(alloc: Global, shelf: &mut H, out: &mut K, name: &str) -> Status
+    ensures { ChecksProject (H.held shelf.old) name.now (Rose (H.faults shelf.old) (H.faults shelf.new)) (Rose (K.faults out.old) (K.faults out.new)) (K.written out.old) (K.written out.new) result }
+{
+    match answer_project(alloc, shelf, name) {
+        Ok(answer) => write(out, answer.text.as_slice(), answer.status),
+        Err(AnswerStop::Fault) => Status::ReadFault,
+        Err(AnswerStop::Memory) => Status::NoMemory,
+    }
+}
+
+/// Runs the command line: `check P` judges the project of that name.
+///
+/// The whole text is built before any of it is written.
+pub fn floyd<H: Shelf, K: Sink>(
+    alloc: Global,
+    words: &Vec<String>,
+    shelf: &mut H,
+    out: &mut K,
+) -> Status
+    ensures causes { Causes (map string_bytes words.now.items) (H.held shelf.old) (Rose (H.faults shelf.old) (H.faults shelf.new)) (Rose (K.faults out.old) (K.faults out.new)) (K.written out.old) (K.written out.new) result }
+{
+    match wrong_word(words.as_slice()) {
+        Some(word) => write_usage(alloc, out, word),
+        None => check(alloc, shelf, out, project_word(words.as_slice())),
     }
 }

@@ -7,6 +7,7 @@ abbrev mutual
   flat Skip = []
   flat (Seq' shape all) = flats all
   flat s = s ∷ []
+
   pub flats : {n : _} → Row_of-Stmt n → List Stmt
   flats end_of-Stmt = []
   flats (more_of-Stmt s rest) = flat s ++ flats rest

@@ -47,8 +47,8 @@ set_there : (z y : Ident) (t : Term) (l : Ident × Term) (ls : Locals) → bytes
 set_there z y t l ls e f =
     ap (cond (bytes_eq z l.0) (Some l.1)) f
     ∙ two_tests (bytes_eq z y) (bytes_eq z l.0) (Some t) (Some l.1) (term_of z ls)
-      (λ p q. let r : y ≡ l.0 = sym (same_name z y p) ∙ same_name z l.0 q in
-        let s : bytes_eq y l.0 ≡ true = (bytes_eq-Decides y l.0).1 r in cc)
+    (λ p q. let r : y ≡ l.0 = sym (same_name z y p) ∙ same_name z l.0 q in
+    let s : bytes_eq y l.0 ≡ true = (bytes_eq-Decides y l.0).1 r in cc)
 
 set_either : (z y : Ident) (t : Term) (l : Ident × Term) (ls : Locals) (b : Bool) → bytes_eq y l.0 ≡ b → term_of z (with_local y t ls) ≡ cond (bytes_eq z y) (Some t) (term_of z ls) → term_of z (cond b ((l.0, t) ∷ ls) (l ∷ with_local y t ls)) ≡ cond (bytes_eq z y) (Some t) (term_of z (l ∷ ls))
 set_either z y t l ls true e f = set_here z y t l ls (same_name y l.0 e)

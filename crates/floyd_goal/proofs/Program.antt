@@ -60,9 +60,10 @@ main_exits spec = record { normal = nowhere; ret = record { post = spec.post; va
 
 leaves_main : (statements : List Stmt) (spec : Funspec) (f : Ident) → bytes_eq f main ≡ true → (x : Env) (e : Exit) (h : Heaplet) → Leaves x (main_exits spec) e h → body_exits (world (linked statements spec)) f x e h
 leaves_main statements spec f i x (Normal act) h p = absurd p.holds.prop.0
-leaves_main statements spec f i x (Returned v) h p =
-    (subst (λ b. has_result (def_if statements spec b) v ≡ true) (sym i) p.typed,
-    subst (λ b. PostOf (if_main statements spec b) x v h) (sym i) (record { prop = p.prop; returned = p.returned; sep = p.sep }))
+leaves_main statements spec f i x (Returned v) h p = (
+  subst (λ b. has_result (def_if statements spec b) v ≡ true) (sym i) p.typed,
+  subst (λ b. PostOf (if_main statements spec b) x v h) (sym i) (record { prop = p.prop; returned = p.returned; sep = p.sep }),
+)
 
 nothing : {t : Term} → None ≡ Some t → ⊥
 nothing e = cc
@@ -80,7 +81,7 @@ main_def statements spec f s true i = λ n keeps x args h p.
       temps = unset;
       binds = ap (λ as'. bind_params [] as' unset) (asked_none spec.pre x args h q);
       runs = safe_all_map (world (linked statements spec)) n (flat (main_body statements)) (Leaves x (main_exits spec)) (body_exits (world (linked statements spec)) f x) (leaves_main statements spec f i x) _ h
-        (s n x tt keeps _ h (source_stands spec.pre x args h q));
+          (s n x tt keeps _ h (source_stands spec.pre x args h q));
     }
 main_def statements spec f s false i = λ x args h p. subst (λ b. PreOf (if_main statements spec b) x args h) i p
 

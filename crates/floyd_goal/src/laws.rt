@@ -9,5 +9,4 @@ ghost use Rattle.floyd_goal.specs.Derivation.{main_start, played};
 /// A main is sound where some proof plays through from its start.
 pub fn derived_programs_are_sound()
     ensures { (statements : List Stmt) (spec : Funspec) (proof : Proof) → played proof (main_start statements spec) ≡ Ok tt → Sound (linked statements spec) }
-{
-}
+{}

@@ -10,11 +10,10 @@ pub struct Command {
 
 pub type CommandList = Items<Command>;
 
-/// A proof of a script: its name, the name's place, its commands, and the place of its `QED`.
+/// A proof of a script: its name, its commands, and the place of its `QED`.
 #[derive(Debug, Drop)]
 pub struct Proof {
     pub name: Name,
-    pub place: Place,
     pub commands: CommandList,
     pub end: Place,
 }

@@ -67,7 +67,11 @@ fn conjunction(alloc: Global, formulas: FormulaList) -> Result<Option<Formula>, 
 }
 
 /// The goal of all formulas that are not true at once, if any.
-pub fn side_goals(alloc: Global, context: Context, formulas: FormulaList) -> Result<GoalList, AllocError>
+pub fn side_goals(
+    alloc: Global,
+    context: Context,
+    formulas: FormulaList,
+) -> Result<GoalList, AllocError>
     ensures { IfOk result (λ gs. gs ≡ side_goals_lem context (conjunction_lem (kept formulas))) }
 {
     let mut goals = Items::new(alloc);

@@ -20,7 +20,6 @@ pub struct GoalStack {
 impl Model for GoalStack {
     ghost use Rattle.std.specs.Prelude.{reverse};
     ghost use Rattle.floyd_goal.specs.Derivation.{Play};
-
     ghost use Rattle.floyd_goal.specs.contracts.stack.Numbered as n;
     ghost use Rattle.std.specs.Coded.{codes};
 

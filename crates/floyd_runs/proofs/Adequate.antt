@@ -160,8 +160,9 @@ calls_meet W a (suc n) answers c m g l =
 
 -- where every body holds, a run from a call of main is sound
 pub sound_run : (W : World) (main : Ident) (m : Mem) → AllHold W → (x : Env) (h F k : Heaplet) → W.pre main x [] h → Joins h F k → Fits k m → EndsWell (CallExits W main x)
-  → (n : ℕ) (answers : List Answer) → AllLawful W n answers (Calling main [] []) m
-  → NoneStuck W (run W n answers (Calling main [] []) m) × CallsMeet W (run W n answers (Calling main [] []) m)
-sound_run W main m a x h F k p j t w n answers l =
-    (none_stuck W n (CallExits W main x) w (Calling main [] []) h F k m answers (all_keep W a (suc (suc n)) (suc n) (omega arith) main x [] h p) j t (tt, tt) l,
-    calls_meet W a n answers (Calling main [] []) m (tt, tt) l)
+    → (n : ℕ) (answers : List Answer) → AllLawful W n answers (Calling main [] []) m
+    → NoneStuck W (run W n answers (Calling main [] []) m) × CallsMeet W (run W n answers (Calling main [] []) m)
+sound_run W main m a x h F k p j t w n answers l = (
+  none_stuck W n (CallExits W main x) w (Calling main [] []) h F k m answers (all_keep W a (suc (suc n)) (suc n) (omega arith) main x [] h p) j t (tt, tt) l,
+  calls_meet W a n answers (Calling main [] []) m (tt, tt) l,
+)

@@ -35,16 +35,16 @@ one_safe W n s E act h p = conseq W Part n (Run s [] act) h (with_normal (λ a g
 
 -- from the exits of a sequence's first statement, under the frame of the rest
 seq_on : (W : World) (n : ℕ) (r : Stmt) (ss : List Stmt) (E : Exits)
-  → ((act : Act) (h : Heaplet) → SafeAll W n ss E act h → Safe W Part n (Run r [] act) h E)
-  → (x : Exit) (g : Heaplet) → with_normal (SafeAll W n ss E) E x g → Safe W Part n (resume (Kseq r ∷ []) x) g E
+    → ((act : Act) (h : Heaplet) → SafeAll W n ss E act h → Safe W Part n (Run r [] act) h E)
+    → (x : Exit) (g : Heaplet) → with_normal (SafeAll W n ss E) E x g → Safe W Part n (resume (Kseq r ∷ []) x) g E
 seq_on W n r ss E f (Normal act) g p =
     quiet W Part n (Run Skip (Kseq r ∷ []) act) (Run r [] act) g E refl (record { steps = λ m. refl; reads = λ m. refl; writes = λ m. refl }) (f act g p)
 seq_on W n r ss E f (Returned v) g p = returned W Part n v g E p
 
 seq_first : (W : World) (n : ℕ) (s r : Stmt) (ss : List Stmt) (E : Exits) (act : Act) (h : Heaplet)
-  → FlatSafe W n s
-  → ((act : Act) (h : Heaplet) → SafeAll W n ss E act h → Safe W Part n (Run r [] act) h E)
-  → SafeAll W n (flat s ++ ss) E act h → Safe W Part n (Run s (Kseq r ∷ []) act) h E
+    → FlatSafe W n s
+    → ((act : Act) (h : Heaplet) → SafeAll W n ss E act h → Safe W Part n (Run r [] act) h E)
+    → SafeAll W n (flat s ++ ss) E act h → Safe W Part n (Run s (Kseq r ∷ []) act) h E
 seq_first W n s r ss E act h f g p =
     bind W Part Part n (Run s [] act) h (with_normal (SafeAll W n ss E) E) E (Kseq r ∷ []) tt (seq_on W n r ss E g)
     (f (with_normal (SafeAll W n ss E) E) act h (append_safe W n (flat s) ss E act h p))
@@ -62,6 +62,7 @@ mutual
   flat_safe W n (Set x e) E act h p = one_safe W n (Set x e) E act h p
   flat_safe W n (Seq' shape all) E act h p = seq_safe W n shape all (all_flat_safe W n all) E act h p
   flat_safe W n (Return e) E act h p = one_safe W n (Return e) E act h p
+
   all_flat_safe : {c : _} → (W : World) (n : ℕ) (row : Row_of-Stmt c) → AllFlatSafe W n row
   all_flat_safe W n end_of-Stmt = tt
   all_flat_safe W n (more_of-Stmt s rest) = (flat_safe W n s, all_flat_safe W n rest)

@@ -92,8 +92,8 @@ owned_more {a} {b} {k} {x} {y} j w =
       cell = w.cell;
       has = whole_has (a x y) (b x y) (k x y) w.cell (j.at x y) w.has;
       alone = λ g l i.
-        let r = assoc j i in
-        none_of_sum (b x y) (g x y) (r.0 x y) (r.1.at x y) (w.alone r.0 l r.2);
+          let r = assoc j i in
+          none_of_sum (b x y) (g x y) (r.0 x y) (r.1.at x y) (w.alone r.0 l r.2);
     }
 
 pub all_within_more : {a b k : Heaplet} → Joins a b k → (ss : List Spot) → AllWithin a ss → AllWithin k ss

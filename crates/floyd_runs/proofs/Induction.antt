@@ -52,10 +52,10 @@ own_call : (W : World) (f : Ident) (fn : Fun) (x : Env) (args : List Value) (h :
 own_call W f fn x args h n e s = λ F k m j t b.
     let act = start_act fn s.temps in
     let is : step W.program (Calling f args []) m ≡ Next (Run fn.body [] act) m =
-      ap (λ d. step_call d f args [] m) e ∙ ap (λ o. on_some o (entered fn [] m)) s.binds in
+    ap (λ d. step_call d f args [] m) e ∙ ap (λ o. on_some o (entered fn [] m)) s.binds in
     record {
       steps = subst (StepsTo W (λ d g. Safe W Whole n d g (CallExits W f x)) h F m) (sym is)
-        (h, k, j, t, bind W Part Whole n (Run fn.body [] act) h (body_exits W f x) (CallExits W f x) [] tt (from_body W n f x) (flat_safe W n fn.body (body_exits W f x) act h s.runs));
+          (h, k, j, t, bind W Part Whole n (Run fn.body [] act) h (body_exits W f x) (CallExits W f x) [] tt (from_body W n f x) (flat_safe W n fn.body (body_exits W f x) act h s.runs));
       reads = tt;
       writes = tt;
     }
@@ -69,7 +69,7 @@ ext_call : (W : World) (f : Ident) (res : CType) (x : Env) (args : List Value) (
 ext_call W f res x args h n e p = λ F k m j t b.
     record {
       steps = subst (λ d. StepsTo W (λ c g. Safe W Whole n c g (CallExits W f x)) h F m (step_call d f args [] m)) (sym e)
-        ((x, h, _, right_empty h, p), answered W f res x args h F k m n e p j t);
+          ((x, h, _, right_empty h, p), answered W f res x args h F k m n e p j t);
       reads = tt;
       writes = tt;
     }

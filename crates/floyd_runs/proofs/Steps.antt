@@ -31,7 +31,7 @@ set_safe W zero x e act h E q = tt
 set_safe W (suc n) x e act h E q = λ F k m j f b.
     record {
       steps = subst (λ o. StepsTo W (λ d g. Safe W Part n d g E) h F m (on_some o (λ v. Next (Run Skip [] (set_in (Some x) v act)) m))) (sym (eval_fits h m (part j f) act e q.value q.evaluates))
-        (h, k, j, f, done W n (set_in (Some x) q.value act) h E q.after);
+          (h, k, j, f, done W n (set_in (Some x) q.value act) h E q.after);
       reads = tt;
       writes = tt;
     }
@@ -71,8 +71,8 @@ return_safe W zero e act h E q = tt
 return_safe W (suc n) e act h E q = λ F k m j f b.
     record {
       steps = subst (StepsTo W (λ d g. Safe W Part n d g E) h F m)
-        (sym (ap (λ o. on_some o (λ v. finish act v [] m)) (eval_fits h m (part j f) act e q.value q.evaluates) ∙ finish_is act h E q.value [] m q.returns))
-        (h, k, j, f, returned W Part n q.value h E q.returns.after);
+          (sym (ap (λ o. on_some o (λ v. finish act v [] m)) (eval_fits h m (part j f) act e q.value q.evaluates) ∙ finish_is act h E q.value [] m q.returns))
+          (h, k, j, f, returned W Part n q.value h E q.returns.after);
       reads = tt;
       writes = no_spots act h E q.value m q.returns;
     }

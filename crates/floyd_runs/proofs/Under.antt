@@ -101,7 +101,7 @@ over_some r None f g e = refl
 over_some r (Some a) f g e = e a
 
 finish_if : (b : Bool) (act : Act) (v : Value) (k r : Kont) (m : Mem)
-  → cond b (on_some (free_all act.blocks m) (λ n. Next (Returning v (call_kont (k ++ r))) n)) Stuck
+    → cond b (on_some (free_all act.blocks m) (λ n. Next (Returning v (call_kont (k ++ r))) n)) Stuck
     ≡ over r (cond b (on_some (free_all act.blocks m) (λ n. Next (Returning v (call_kont k)) n)) Stuck)
 finish_if true act v k r m = over_some r (free_all act.blocks m) _ _ (λ n. ap (λ x. Next (Returning v x) n) (call_kont_under k r))
 finish_if false act v k r m = refl

@@ -53,5 +53,5 @@ main_body statements = Seq (statements ++ Return (Some (Const (Vint 0) int)) ∷
 abbrev pub linked : List Stmt → Funspec → Linked
 linked statements spec = record {
   functions =
-    record { name = main; spec = spec; def = Own (record { result = int; params = []; body = main_body statements }) } ∷ []
+      record { name = main; spec = spec; def = Own (record { result = int; params = []; body = main_body statements }) } ∷ [];
 }

@@ -1,0 +1,5 @@
+//! Tests of the command line over files in memory.
+#![tactic(auto)]
+
+#[cfg(test)]
+mod commands;
