@@ -3,9 +3,11 @@
 
 mod check;
 mod files;
+mod laws;
 mod modules;
 mod program;
 
 pub use check::{Accepted, NameList, check_bytes};
 pub use files::FileList;
+pub use laws::one_verdict;
 pub use modules::modules_of;

@@ -1,5 +1,5 @@
 -- What the command line answers: each status with its cause.
-use Rattle.std.specs.Prelude.{◌≡◌, ℕ, List, [], ◌∷◌, Option, Some, None, Result, Ok, Err, codes}
+use Rattle.std.specs.Prelude.{◌≡◌, ℕ, ◌⊎◌, List, [], ◌∷◌, Option, Some, None, Result, Ok, Err, codes}
 use Rattle.floyd_text.specs.declared.refusal.Refusal.{Refusal}
 use Rattle.floyd_text.specs.Outside.{Files, Appends, AppendsFront}
 use Rattle.floyd_runs.specs.Sound.{Sound}
@@ -79,3 +79,24 @@ Causes words held shelf_rose sink_rose old new Usage = Misused words old new
 Causes words held shelf_rose sink_rose old new ReadFault = (wrong_word words ≡ None) × shelf_rose × (new ≡ old)
 Causes words held shelf_rose sink_rose old new WriteFault = sink_rose × WritesFront held words old new (wrong_word words)
 Causes words held shelf_rose sink_rose old new NoMemory = new ≡ old
+
+-- Where the shelf tells, the project is accepted, and its program is sound: for every start that meets main's
+-- precondition, every list of external answers that keep their specifications and every n, it is not stuck within n
+-- steps of the Clight machine, and every call entered in its precondition that returns meets its postcondition, with
+-- all else untouched.
+unfoldable pub AcceptsSound : Option Files → List ℕ → Type 0
+AcceptsSound None name = Unit {0}
+AcceptsSound (Some held) name = (p : Program) × IsVerdict held name (Ok p) × Sound (linked_of p)
+
+-- Where the shelf tells, the status is the verdict's, and the verdict's text was written, unless memory ran out.
+unfoldable pub AnswersVerdict : Option Files → List ℕ → Option (List ℕ) → Option (List ℕ) → Status → Type 0
+AnswersVerdict None name old new status = Unit {0}
+AnswersVerdict (Some held) name old new status =
+    (v : Result Program Refusal) → IsVerdict held name v
+    → ((status ≡ status_of v) × Appends old new (verdict_text (names_in held name) v)) ⊎ (status ≡ NoMemory)
+
+-- Exactly: where neither the shelf nor the sink failed, words that are no command line are answered by their usage, and
+-- others by the verdict, want of memory aside.
+pub record Exactly (words : List (List ℕ)) (held : Option Files) (shelf_rose sink_rose : Type 0) (old new : Option (List ℕ)) (status : Status) : Type 0 where
+  pub usage : (word : ℕ) → wrong_word words ≡ Some word → (sink_rose → ⊥) → (status ≡ Usage) ⊎ (status ≡ NoMemory)
+  pub verdict : wrong_word words ≡ None → (shelf_rose → ⊥) → (sink_rose → ⊥) → AnswersVerdict held (project_in words) old new status

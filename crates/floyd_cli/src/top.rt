@@ -2,7 +2,7 @@ ghost use Rattle.std.specs.Prelude.{◌≡◌, ◌≢◌, ◌≤◌, [], ◌∷�
 ghost use Rattle.std.specs.String.{string_bytes};
 ghost use Rattle.floyd_text.specs.Outside.{Rose};
 ghost use Rattle.floyd_check.specs.Verdict.{AreFiles};
-ghost use Rattle.floyd_cli.specs.Causes.{Causes};
+ghost use Rattle.floyd_cli.specs.Causes.{Causes, AcceptsSound, Exactly};
 ghost use Rattle.floyd_cli.specs.Judging.{JudgedFiles, GivesAnswer, Writes, WritesUsage, ChecksProject};
 ghost use Rattle.floyd_cli.specs.Texts.{refusal_text};
 ghost use Rattle.floyd_cli.specs.Words.{wrong_word as wrong_word_lem, project_in};
@@ -126,9 +126,27 @@ fn check<H: Shelf, K: Sink>(alloc: Global, shelf: &mut H, out: &mut K, name: &st
     }
 }
 
-/// Runs the command line: `check P` judges the project of that name.
+/// Answers the command line, each status with its cause.
+fn answer_words<H: Shelf, K: Sink>(
+    alloc: Global,
+    words: &[String],
+    shelf: &mut H,
+    out: &mut K,
+) -> Status
+    ensures { Causes (map string_bytes words.now) (H.held shelf.old) (Rose (H.faults shelf.old) (H.faults shelf.new)) (Rose (K.faults out.old) (K.faults out.new)) (K.written out.old) (K.written out.new) result }
+{
+    match wrong_word(words) {
+        Some(word) => write_usage(alloc, out, word),
+        None => check(alloc, shelf, out, project_word(words)),
+    }
+}
+
+/// Runs the command line. `check P` judges the project of that name: the status is Done and the text ends with
+/// `accepted`, or it is Refused and the text is the first refusal's line. The whole text is built before any of it is
+/// written.
 ///
-/// The whole text is built before any of it is written.
+/// Each status has its cause, by cases on it: Usage the words, ReadFault and WriteFault a count of faults that rose,
+/// Done and Refused the verdict; NoMemory has none.
 pub fn floyd<H: Shelf, K: Sink>(
     alloc: Global,
     words: &Vec<String>,
@@ -136,9 +154,8 @@ pub fn floyd<H: Shelf, K: Sink>(
     out: &mut K,
 ) -> Status
     ensures causes { Causes (map string_bytes words.now.items) (H.held shelf.old) (Rose (H.faults shelf.old) (H.faults shelf.new)) (Rose (K.faults out.old) (K.faults out.new)) (K.written out.old) (K.written out.new) result }
+    ensures sound { result ≡ Status.Done → AcceptsSound (H.held shelf.old) (project_in (map string_bytes words.now.items)) }
+    ensures exact { Exactly (map string_bytes words.now.items) (H.held shelf.old) (Rose (H.faults shelf.old) (H.faults shelf.new)) (Rose (K.faults out.old) (K.faults out.new)) (K.written out.old) (K.written out.new) result }
 {
-    match wrong_word(words.as_slice()) {
-        Some(word) => write_usage(alloc, out, word),
-        None => check(alloc, shelf, out, project_word(words.as_slice())),
-    }
+    answer_words(alloc, words.as_slice(), shelf, out)
 }
