@@ -1,0 +1,5 @@
+PROOF main
+forward;
+forward;
+cancel;
+QED

@@ -1,0 +1,26 @@
+ghost use Rattle.floyd_text.specs.Gives.{RuleGives};
+ghost use Rattle.floyd_goal.specs.Rows.{evaluate as evaluate_lem};
+
+use floyd_assert::{Locals, Term};
+use floyd_clight::Expr;
+use floyd_goal::wrong_goal;
+use floyd_int::Value;
+use floyd_text::{No, RuleStop, Shown};
+use std::alloc::Global;
+
+/// The term of an expression: that of an int constant is its number, that of a temporary stands in LOCAL.
+pub fn evaluate(alloc: Global, locals: &Locals, e: &Expr) -> Result<Term, RuleStop>
+    ensures { RuleGives (λ t. t) result (evaluate_lem locals.now e.now) }
+{
+    match e {
+        Expr::Const(Value::Vint(bits), _) => Ok(Term::vint(alloc, u64::from(*bits))?),
+        Expr::Const(_, _) => Err(RuleStop::No(wrong_goal())),
+        Expr::Temp(name, _) => match locals.get(name) {
+            Some(term) => Ok(term.share()?),
+            None => Err(RuleStop::No(No {
+                code: 710,
+                shown: Shown::Name(name.share()?),
+            })),
+        },
+    }
+}
