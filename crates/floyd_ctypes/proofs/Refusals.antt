@@ -1,10 +1,10 @@
 -- Why a struct cannot be completed.
-use Rattle.std.proofs.Common.{◌≡◌, false, ℕ, List, [], ◌∷◌, ◌&&◌, Option, None, Some, Result, Ok, Err, IsErrAnd, option_map, option_and_then, is_some, if◌then◌else◌, refl, ap, ◌∙◌}
+use Rattle.std.proofs.Common.{◌≡◌, Bool, true, false, ℕ, List, [], ◌∷◌, ◌&&◌, Option, None, Some, Result, Ok, Err, IsErrAnd, option_map, option_and_then, is_some, if◌then◌else◌, refl, ap, sym, subst, cond, ◌∙◌}
 use Rattle.floyd_ctypes.specs.declared.define.DefineStop.{DefineStop}
 use Rattle.floyd_ctypes.specs.declared.define.DefineStop.TheVariants.{Again, Incomplete, Memory}
 use Rattle.floyd_ctypes.specs.declared.field.Field.{Field}
 use Rattle.floyd_ctypes.specs.declared.layout.Layout.{Layout}
-use Rattle.floyd_ctypes.specs.Define.{all_sized, refusal, Answers}
+use Rattle.floyd_ctypes.specs.Define.{all_sized, refusal, Refuses, Answers}
 use Rattle.floyd_ctypes.specs.Layout.{layout, laid_after, fields_layout, after, padded, nothing_laid}
 use Rattle.floyd_ctypes.specs.Structs.{Structs, is_complete}
 
@@ -35,6 +35,25 @@ pub refusal-unlaid : (structs : Structs) (tag : List ℕ) (fs : List Field) → 
 refusal-unlaid structs tag fs open_yet unlaid =
     ap (λ b. if b then Some Again else if all_sized structs fs then None else Some Incomplete) open_yet
     ∙ ap (λ b. let r : Option DefineStop = if b then None else Some Incomplete in r) (sized-layout structs fs ∙ ap is_some unlaid)
+
+pub laid_unrefused : (structs : Structs) (tag : List ℕ) (fs : List Field) (l : Layout) → false ≡ is_complete structs tag → Some l ≡ fields_layout (layout structs) fs → refusal structs tag fs ≡ None
+laid_unrefused structs tag fs l open_yet laid = refusal-laid structs tag fs l (sym open_yet) (sym laid)
+
+pub unlaid_refused : (structs : Structs) (tag : List ℕ) (fs : List Field) → false ≡ is_complete structs tag → None ≡ fields_layout (layout structs) fs → refusal structs tag fs ≡ Some Incomplete
+unlaid_refused structs tag fs open_yet unlaid = refusal-unlaid structs tag fs (sym open_yet) (sym unlaid)
+
+-- what is not refused is not complete
+pub unrefused_open : (structs : Structs) (tag : List ℕ) (fs : List Field) → refusal structs tag fs ≡ None → is_complete structs tag ≡ false
+unrefused_open structs tag fs e = by (is_complete structs tag) e
+  where
+    by : (b : Bool) → cond b (Some Again) (if all_sized structs fs then None else Some Incomplete) ≡ None → b ≡ false
+    by true e = cc
+    by false e = refl
+
+-- a refusal that is handed on
+pub handed_on : {X : Type 0} (answer : Result X DefineStop) (stop : DefineStop) (wanted : Option DefineStop) → IsErrAnd answer (λ e. e ≡ stop) → Refuses stop wanted → Answers answer wanted
+handed_on (Ok x) stop wanted h refused = absurd h
+handed_on (Err e) stop wanted h refused = subst (λ s. Refuses s wanted) (sym h) refused
 
 -- want of memory is met where there is no refusal
 pub memory_answers : {X : Type 0} (answer : Result X DefineStop) (wanted : Option DefineStop) → IsErrAnd answer (λ e. e ≡ Memory) → wanted ≡ None → Answers answer wanted

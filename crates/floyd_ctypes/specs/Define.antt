@@ -24,9 +24,13 @@ all_sized structs fields = list_all (λ f. is_some (size structs f.ty)) fields
 abbrev pub refusal : Structs → List ℕ → List Field → Option DefineStop
 refusal structs tag fields = if is_complete structs tag then Some Again else if all_sized structs fields then None else Some Incomplete
 
--- what was answered is that there is no refusal, or the refusal; want of memory is met only where there is none
+-- why a call stopped is the refusal; want of memory is met only where there is none
+abbrev pub Refuses : DefineStop → Option DefineStop → Type 0
+Refuses Again wanted = wanted ≡ Some Again
+Refuses Incomplete wanted = wanted ≡ Some Incomplete
+Refuses Memory wanted = wanted ≡ None
+
+-- a call has an answer only where there is no refusal
 abbrev pub Answers : {X : Type 0} → Result X DefineStop → Option DefineStop → Type 0
 Answers (Ok x) wanted = wanted ≡ None
-Answers (Err Again) wanted = wanted ≡ Some Again
-Answers (Err Incomplete) wanted = wanted ≡ Some Incomplete
-Answers (Err Memory) wanted = wanted ≡ None
+Answers (Err stop) wanted = Refuses stop wanted

@@ -1,16 +1,17 @@
-ghost use Rattle.std.specs.Prelude.{◌≡◌, ◌<◌, ◌^◌, [], length, All, IsTrue, IfSome, IfNone, None, Some, OnOk, OnErr, ℕ, List, slice_get, bytes_eq};
+ghost use Rattle.std.specs.Prelude.{◌≡◌, ◌<◌, ◌^◌, [], length, All, IsTrue, IfSome, IfNone, IfOk, None, Some, OnOk, OnErr, ℕ, List, slice_get, bytes_eq};
 ghost use Rattle.std.specs.List.{IsDistinct};
 ghost use Rattle.std.specs.Option.{option_copied};
 ghost use Rattle.indexmap.specs.IndexMap.{insert_entry};
 ghost use Rattle.floyd_ctypes.specs.Stored.{PutsEntry};
 ghost use Rattle.floyd_ctypes.specs.Structs.{tags, has_tag, is_complete as is_complete_lem, fields_of};
-ghost use Rattle.floyd_ctypes.specs.Layout.{type_fits, IsLaidOut};
+ghost use Rattle.floyd_ctypes.specs.Layout.{layout, fields_layout, type_fits, IsLaidOut};
 ghost use Rattle.floyd_ctypes.specs.declared.field.Field.{Field};
 ghost use Rattle.floyd_ctypes.specs.Define.{declared, completed, refusal, Answers};
 
 use crate::define::DefineStop;
-use crate::field::FieldList;
+use crate::field::{Field, FieldList};
 use crate::laid::Laid;
+use crate::layout::Layout;
 use floyd_text::Name;
 use indexmap::IndexMap;
 use std::alloc::{AllocError, Global};
@@ -111,6 +112,23 @@ impl StructTable {
         Ok(())
     }
 
+    /// How the struct lies in memory once it has these fields, or why it cannot get them.
+    #[tactic(auto, using(crate::proofs::Refusals::laid_unrefused, crate::proofs::Refusals::unlaid_refused))]
+    fn layout_to_be(&self, tag: &Name, fields: &[Field]) -> Result<Layout, DefineStop>
+        requires few { length fields.now < 2 ^ 31 }
+        requires fits { All (λ f. IsTrue (type_fits self.now f.ty)) fields.now }
+        ensures answer { Answers result (refusal self.now tag.now fields.now) }
+        ensures value { IfOk result (λ l. fields_layout (layout self.now) fields.now ≡ Some l) }
+    {
+        if self.is_complete(tag) {
+            return Err(DefineStop::Again);
+        }
+        match self.layout_of_fields(fields) {
+            Some(layout) => Ok(layout),
+            None => Err(DefineStop::Incomplete),
+        }
+    }
+
     /// Gives the struct its fields. After a refusal the table is as before.
     pub fn complete(&mut self, tag: &Name, fields: FieldList) -> Result<(), DefineStop>
         requires there { IsTrue (has_tag self.old tag.now) }
@@ -121,12 +139,7 @@ impl StructTable {
         ensures err { OnErr result (self.new ≡ self.old) }
         ensures answer { Answers result (refusal self.old tag.now fields) }
     {
-        if self.is_complete(tag) {
-            return Err(DefineStop::Again);
-        }
-        let Some(layout) = self.layout_of_fields(fields.as_slice()) else {
-            return Err(DefineStop::Incomplete);
-        };
+        let layout = self.layout_to_be(tag, fields.as_slice())?;
         let places = self.places_of_fields(fields.as_slice())?;
         let laid = Laid {
             fields,
