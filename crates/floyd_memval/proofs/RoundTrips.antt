@@ -29,6 +29,7 @@ use Rattle.floyd_memval.proofs.NumberLaws.{number_in-number_bytes, number_in-num
 -- ---- sizes
 
 pub length-encoding : (c : Chunk) (v : Value) → length (encoding c v) ≡ chunk_size c
+unfolding encoding
 length-encoding I8 v = elim v as (λ w. length (encoding I8 w) ≡ 1) [ Vundef ↦ refl | Vint x ↦ refl | Vlong x ↦ refl | Vptr b o ↦ refl ]
 length-encoding U8 v = elim v as (λ w. length (encoding U8 w) ≡ 1) [ Vundef ↦ refl | Vint x ↦ refl | Vlong x ↦ refl | Vptr b o ↦ refl ]
 length-encoding I16 v = elim v as (λ w. length (encoding I16 w) ≡ 2) [ Vundef ↦ refl | Vint x ↦ refl | Vlong x ↦ refl | Vptr b o ↦ refl ]
@@ -68,6 +69,7 @@ other-undefined Ptr bytes none = pointer_in-else bytes none
 
 -- one undefined byte leaves the whole undefined
 pub decoding-undefined : (c : Chunk) (bytes : List MemByte) → Contains bytes Undef → decoding c bytes ≡ Vundef
+unfolding decoding
 decoding-undefined c bytes (k, below, is) =
     ap (value_from c bytes) (number_in-none bytes k below (λ b e. cc))
     ∙ other-undefined c bytes (λ b o e.
@@ -75,6 +77,7 @@ decoding-undefined c bytes (k, below, is) =
     fragments-defined 8 (Vptr b o) k (subst (λ xs. k < length xs) whole below) (sym (ap (λ xs. get_or xs k Undef) whole) ∙ is))
 
 pub decoding-undefined_bytes : (c : Chunk) → decoding c (undefined_bytes c) ≡ Vundef
+unfolding decoding
 decoding-undefined_bytes I8 = refl
 decoding-undefined_bytes U8 = refl
 decoding-undefined_bytes I16 = refl
@@ -103,9 +106,11 @@ pointer_from Ptr bytes None b o e = (refl, pointer_in-pointer bytes b o e)
 
 -- a pointer comes from its fragments alone
 pub decoding-pointer : (c : Chunk) (bytes : List MemByte) (b o : ℕ) → decoding c bytes ≡ Vptr b o → IsFalse (is_narrow c) × (bytes ≡ fragments 8 (Vptr b o))
+unfolding decoding
 decoding-pointer c bytes b o e = pointer_from c bytes (number_in bytes) b o e
 
 pub decoding-fragments : (c : Chunk) (b o : ℕ) → IsFalse (is_narrow c) → decoding c (fragments 8 (Vptr b o)) ≡ Vptr b o
+unfolding decoding
 decoding-fragments I8 b o wide = cc
 decoding-fragments U8 b o wide = cc
 decoding-fragments I16 b o wide = cc
@@ -152,6 +157,7 @@ int_back : (c : Chunk) (n x y : ℕ) → value_from c (number_bytes n x) (Some (
 int_back c n x y e same = ap (value_from c (number_bytes n x)) (number_in-number_bytes n x) ∙ e ∙ ap Vint same
 
 kind_back : (k : IntKind) (v : Value) → has_kind k v ≡ true → decoding (kind_chunk k) (encoding (kind_chunk k) v) ≡ v
+unfolding encoding decoding
 kind_back KindI8 (Vint x) h = int_back I8 1 x _ refl (byte_back x h)
 kind_back KindU8 (Vint x) h =
     let small = ltb-true x (2 ^ 8) h in
@@ -194,6 +200,7 @@ kind_back KindI64 (Vptr b o) h = cc
 kind_back KindU64 (Vptr b o) h = cc
 
 pointer_back : (v : Value) → has_pointer v ≡ true → decoding Ptr (encoding Ptr v) ≡ v
+unfolding encoding decoding
 pointer_back (Vptr b o) h = pointer_in-fragments b o
 pointer_back (Vlong x) h =
     let null = eqb-true x 0 h in

@@ -49,5 +49,5 @@ value_from c bytes (Some x) = number_value c x
 value_from c bytes None = if is_narrow c then Vundef else pointer_in bytes
 
 -- the value of bytes at a chunk
-abbrev pub decoding : Chunk → List MemByte → Value
+unfoldable pub decoding : Chunk → List MemByte → Value
 decoding c bytes = value_from c bytes (number_in bytes)

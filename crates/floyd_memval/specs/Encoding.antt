@@ -22,7 +22,7 @@ abbrev pub undefined_bytes : Chunk → List MemByte
 undefined_bytes c = replicate (chunk_size c) Undef
 
 -- the bytes of a value at a chunk
-abbrev pub encoding : Chunk → Value → List MemByte
+unfoldable pub encoding : Chunk → Value → List MemByte
 encoding c Vundef = undefined_bytes c
 encoding c (Vint x) = if is_narrow c then number_bytes (chunk_size c) x else undefined_bytes c
 encoding c (Vlong x) = if is_narrow c then undefined_bytes c else number_bytes 8 x

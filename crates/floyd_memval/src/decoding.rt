@@ -9,6 +9,7 @@ use floyd_int::{IntKind, Value, cast};
 /// The value of bytes at a chunk, given from the lowest place on. At `I8` to `I32` a number is read with the chunk's
 /// sign, and is a `Vint` of the 32 bits of what was read. A pointer is given by its eight fragments at `I64` and `Ptr`
 /// alike. All else gives `Vundef`, as fragments out of order or beside numbers.
+#[tactic(auto, unfolding(crate::specs::Decoding::decoding))]
 pub fn decode(chunk: Chunk, from: &[MemByte]) -> Value
     requires { length from.now ≡ chunk_size chunk }
     ensures { result ≡ decoding chunk from.now }

@@ -7,6 +7,7 @@ use floyd_int::Value;
 
 /// The bytes of a value at a chunk, from the lowest place on, and how many they are. Numbers are little-endian. What
 /// does not fit the chunk, as a pointer at `I32` or a `Vlong` at `I8`, is laid down as undefined bytes.
+#[tactic(auto, unfolding(crate::specs::Encoding::encoding))]
 pub fn encode(chunk: Chunk, v: &Value, into: &mut [MemByte; 8]) -> usize
     ensures size { result ≡ chunk_size chunk }
     ensures bytes { into.new ≡ encoding chunk v.now ++ drop result into.old }
