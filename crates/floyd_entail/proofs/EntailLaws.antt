@@ -5,7 +5,6 @@ use Rattle.std.specs.Prelude.{slice_get}
 use Rattle.floyd_text.specs.declared.refusal.No.{No}
 use Rattle.floyd_text.specs.declared.refusal.RuleStop as r
 use Rattle.floyd_text.specs.Gives.{RuleStops}
-use Rattle.floyd_clight.specs.Evaluation.{Ident}
 use Rattle.floyd_assert.specs.declared.term.Term.{Term}
 use Rattle.floyd_assert.specs.declared.formula.Formula.{Formula}
 use Rattle.floyd_assert.specs.declared.assertion.Assertion.{Assertion}
@@ -41,7 +40,7 @@ never_none (x ∷ xs) zero l e = cc
 never_none (x ∷ xs) (suc n) l e = never_none xs n (omega arith) e
 
 -- one equation more
-pub next_equation : (source target : Locals) (n : ℕ) (l : Ident × Term) (f : Formula) (fs : List Formula) → slice_get target n ≡ Some l → equation source l.0 l.1 ≡ Ok f → put_front fs (equations source (drop n target)) ≡ equations source target → put_front (fs ++ f ∷ []) (equations source (drop (n + 1) target)) ≡ equations source target
+pub next_equation : (source target : Locals) (n : ℕ) (l : List ℕ × Term) (f : Formula) (fs : List Formula) → slice_get target n ≡ Some l → equation source l.0 l.1 ≡ Ok f → put_front fs (equations source (drop n target)) ≡ equations source target → put_front (fs ++ f ∷ []) (equations source (drop (n + 1) target)) ≡ equations source target
 next_equation source target n l f fs i e p =
     front_more fs f (equations source (drop (n + 1) target))
     ∙ ap (λ o. put_front fs (and_more o (equations source (drop (n + 1) target)))) (sym e)
@@ -49,7 +48,7 @@ next_equation source target n l f fs i e p =
     ∙ p
 
 -- the first equation that is refused
-pub refused_equation : (source target : Locals) (n : ℕ) (l : Ident × Term) (fs : List Formula) (stop : r.RuleStop) → slice_get target n ≡ Some l → RuleStops stop (equation source l.0 l.1) → put_front fs (equations source (drop n target)) ≡ equations source target → RuleStops stop (equations source target)
+pub refused_equation : (source target : Locals) (n : ℕ) (l : List ℕ × Term) (fs : List Formula) (stop : r.RuleStop) → slice_get target n ≡ Some l → RuleStops stop (equation source l.0 l.1) → put_front fs (equations source (drop n target)) ≡ equations source target → RuleStops stop (equations source target)
 refused_equation source target n l fs (r.TheVariants.No no') i e p =
     sym p
     ∙ ap (λ ls. put_front fs (equations source ls)) (drop_at target n l i)
