@@ -1,5 +1,5 @@
 -- What the verdict on a module is, by what its files read as and by the play of its proof.
-use Rattle.std.proofs.Common.{◌≡◌, ℕ, List, [], ◌∷◌, length, get_or, Option, Some, Result, Ok, Err, refl, sym, ap, subst, arith}
+use Rattle.std.proofs.Common.{◌≡◌, ℕ, List, [], ◌∷◌, length, get_or, Option, Some, Result, Ok, Err, refl, sym, ap, subst, arith, ◌≤◌}
 use Rattle.floyd_text.specs.declared.refusal.Refusal.{Refusal}
 use Rattle.floyd_text.specs.declared.refusal.Halt.{Halt}
 use Rattle.floyd_text.specs.declared.refusal.Halt.TheVariants.{Refused, Memory}
@@ -7,7 +7,10 @@ use Rattle.floyd_text.specs.Gives.{Stops}
 use Rattle.floyd_project.specs.declared.module.Module.{Module}
 use Rattle.floyd_first.specs.declared.form.Main.{Main}
 use Rattle.floyd_first.specs.declared.form.Script.{Script}
-use Rattle.floyd_first.specs.Forms.{IsMain, IsSpec, IsScript, ReadsAs}
+use Rattle.floyd_text.specs.declared.place.Place.{Place}
+use Rattle.floyd_first.specs.declared.form.Entry.{Entry}
+use Rattle.floyd_first.specs.Spaced.{Token}
+use Rattle.floyd_first.specs.Forms.{IsMain, IsSpec, IsScript, ReadsAs, AreCommands}
 use Rattle.floyd_goal.specs.Derivation.{main_start, played}
 use Rattle.floyd_check.specs.Loading.{modules_of}
 use Rattle.floyd_check.specs.declared.check.Accepted.{Accepted}
@@ -59,3 +62,14 @@ checks_files project (x ∷ y ∷ z ∷ []) modules (Err Memory) e h = tt
 pub checks_project : (project : List ℕ) (files : List (List ℕ)) (halt : Halt) → Stops halt (modules_of project) → Checks (project ∷ files) (Err halt)
 checks_project project files (Refused r) e = subst (λ (m : Result (List Module) Refusal). JudgesModules m files (Err r)) (sym e) refl
 checks_project project files Memory e = tt
+
+-- there are no more commands than tokens
+commands_few : (file : ℕ) (bytes : List ℕ) (ts : List Token) (es : List Entry) (end : Place) → AreCommands file bytes ts es end → length es ≤ length ts
+commands_few file bytes [] es end h = absurd h
+commands_few file bytes (q ∷ ts) [] end h = omega arith
+commands_few file bytes (c ∷ []) (e ∷ es) end h = absurd h
+commands_few file bytes (c ∷ s ∷ ts) (e ∷ es) end h = omega (arith, commands_few file bytes ts es end h.3)
+
+-- a script that was read has no more commands than a file has tokens
+pub script_few : (bytes : List ℕ) (s : Script) → ReadsAs (IsScript 3 bytes) (Some s) → length s.commands ≤ 1000000
+script_few bytes s h = omega (arith, h.4, commands_few 3 bytes h.2 s.commands s.end h.7)

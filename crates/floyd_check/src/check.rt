@@ -1,4 +1,4 @@
-ghost use Rattle.std.specs.Prelude.{◌≡◌, length};
+ghost use Rattle.std.specs.Prelude.{◌≡◌, ◌≤◌, length};
 ghost use Rattle.floyd_text.specs.Gives.{Gives};
 ghost use Rattle.floyd_check.specs.Checked.{Checks, ChecksModule, ChecksThree};
 ghost use Rattle.floyd_check.specs.Verdict as spec;
@@ -37,6 +37,7 @@ fn not_built(file: u32) -> Refusal
 
 /// Plays the proof of main on the start that its source and its specification give.
 fn judge(alloc: Global, main: &Main, value: u32, script: &Script) -> Result<(), Halt>
+    requires { length script.now.commands ≤ 1000000 }
     ensures exact { Gives (λ u. u) result (played (spec.proof_of script.now) (main_start (spec.statements_of main.now) (spec.spec_of value))) }
 {
     let proof = proof_of(alloc, script)?;

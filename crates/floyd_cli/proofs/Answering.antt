@@ -71,7 +71,7 @@ files_in held project before [] = tt
 files_in held project before (f ∷ fs) =
     on_ok_in (next_file held project before f) _
     (on_ok_in (bytes_at (named_at project f) (file_in held f.name)) _ (bytes_at_in (named_at project f) (file_in held f.name) refl)
-      (λ bytes. within_in (named_at project f) (before + length bytes) bytes refl))
+    (λ bytes. within_in (named_at project f) (before + length bytes) bytes refl))
     (λ bytes. on_ok_in (files_from held project (before + length bytes) fs) _ (files_in held project (before + length bytes) fs) (λ rest. tt))
 
 built_in : (modules : List Module) → InProject (built_modules modules)

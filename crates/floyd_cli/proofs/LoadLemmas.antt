@@ -127,7 +127,6 @@ unfolding Leads HasFiles
 leads_end None project all before total l = tt
 leads_end (Some files) project all before total l = l ∙ ap Ok (append-nil before)
 
-
 and_left : (x y : Bool) → (x && y) ≡ true → x ≡ true
 and_left true y e = refl
 and_left false y e = e

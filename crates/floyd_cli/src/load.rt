@@ -9,7 +9,9 @@ ghost use Rattle.floyd_project.specs.Lines.{is_file_name};
 
 use floyd_check::{FileList, modules_of};
 use floyd_project::{FileName, Module};
-use floyd_text::{Bytes, Halt, Name, Place, ReadStop, Refusal, Rule, Shelf, Shown, place_of, read_file};
+use floyd_text::{
+    Bytes, Halt, Name, Place, ReadStop, Refusal, Rule, Shelf, Shown, place_of, read_file,
+};
 use sqlite_items::Items;
 use std::alloc::{AllocError, Global};
 
@@ -103,8 +105,14 @@ fn read_named<H: Shelf>(
     };
     match read_file(alloc, shelf, name) {
         Ok(bytes) => Ok(bytes),
-        Err(ReadStop::Missing) => Err(LoadStop::Refused(refusal_at(101, place_named(project, file)))),
-        Err(ReadStop::TooLarge) => Err(LoadStop::Refused(refusal_at(102, place_named(project, file)))),
+        Err(ReadStop::Missing) => Err(LoadStop::Refused(refusal_at(
+            101,
+            place_named(project, file),
+        ))),
+        Err(ReadStop::TooLarge) => Err(LoadStop::Refused(refusal_at(
+            102,
+            place_named(project, file),
+        ))),
         Err(ReadStop::Fault) => Err(LoadStop::Fault),
         Err(ReadStop::Memory) => Err(LoadStop::Memory),
     }

@@ -150,7 +150,12 @@ fn put_goal(alloc: Global, out: &mut Bytes, goal: u32) -> Result<(), AllocError>
 }
 
 /// Puts `FILE:LINE:COLUMN: CODE NAME` at the end.
-fn put_head(alloc: Global, out: &mut Bytes, names: &[Name], refusal: &Refusal) -> Result<(), AllocError>
+fn put_head(
+    alloc: Global,
+    out: &mut Bytes,
+    names: &[Name],
+    refusal: &Refusal,
+) -> Result<(), AllocError>
     ensures { OnOk result (out.new ≡ out.old ++ spec.head_text (spec.file_name names.now refusal.now.place.file) refusal.now) }
 {
     put_place(alloc, out, names, refusal.place)?;

@@ -6,7 +6,7 @@ ghost use Rattle.floyd_goal.specs.Rows.{row, forward as forward_lem, forward_set
 use crate::evaluation::evaluate;
 use floyd_assert::{Formula, Term, share_formulas};
 use floyd_clight::Stmt;
-use floyd_goal::{Context, Entail, Exits, Goal, GoalList, Return, Run, Pure, is_typed, wrong_goal};
+use floyd_goal::{Context, Entail, Exits, Goal, GoalList, Pure, Return, Run, is_typed, wrong_goal};
 use floyd_text::{Name, RuleStop};
 use sqlite_items::Items;
 use std::alloc::{AllocError, Global};

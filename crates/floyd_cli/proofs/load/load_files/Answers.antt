@@ -30,7 +30,7 @@ returns-in-Err-read_files-clause-gives g c =
     let now = g.H.Shelf.faults c.read_files.new.shelf in
     let files : c.as_slice-5.result.now ≡ flat_map files_of c.in-Ok.modules = c.as_slice-5.ensures ∙ c.in_ok-named.ensures ∙ ap (flat_map files_of) c.as_slice-2.ensures in
     let project : ReadsFiles held c.args.project c.as_slice-5.result.now before now (Err c.in-Err-read_files.stop) =
-      subst (λ (p : List ℕ). ReadsFiles held p c.as_slice-5.result.now before now (Err c.in-Err-read_files.stop)) c.as_slice-4.ensures c.in-Err-read_files.ensures.gives in
+    subst (λ (p : List ℕ). ReadsFiles held p c.as_slice-5.result.now before now (Err c.in-Err-read_files.stop)) c.as_slice-4.ensures c.in-Err-read_files.ensures.gives in
     files_stopped held c.args.name.now c.args.project c.in-Ok.modules c.in-Err-read_files.stop before now c.requires
     (ap modules_of (sym c.as_slice.ensures) ∙ c.in-Ok.ensures.exact)
     (subst (λ (fs : List FileName). ReadsFiles held c.args.project fs before now (Err c.in-Err-read_files.stop)) files project)
@@ -42,12 +42,13 @@ returns-in_ok-with_project-in-Ok-read_files-clause-gives g c =
     let files : c.as_slice-5.result.now ≡ flat_map files_of c.in-Ok.modules = c.as_slice-5.ensures ∙ c.in_ok-named.ensures ∙ ap (flat_map files_of) c.as_slice-2.ensures in
     let others = c.in-Ok-read_files.others in
     let project : HasFiles held c.args.project c.as_slice-5.result.now (Ok others) =
-      subst (λ (p : List ℕ). HasFiles held p c.as_slice-5.result.now (Ok others)) c.as_slice-4.ensures c.in-Ok-read_files.ensures.gives in
+    subst (λ (p : List ℕ). HasFiles held p c.as_slice-5.result.now (Ok others)) c.as_slice-4.ensures c.in-Ok-read_files.ensures.gives in
     let has : HasProject held c.args.name.now (Ok (c.args.project ∷ others)) =
-      project_loaded held c.args.name.now c.args.project c.in-Ok.modules (Ok others) c.requires modules
-      (subst (λ (fs : List FileName). HasFiles held c.args.project fs (Ok others)) files project) in
+    project_loaded held c.args.name.now c.args.project c.in-Ok.modules (Ok others) c.requires modules
+    (subst (λ (fs : List FileName). HasFiles held c.args.project fs (Ok others)) files project) in
     let names : c.in_ok-names.names ≡ c.args.name.now ∷ map (λ (f : FileName). f.name) (flat_map files_of c.in-Ok.modules) =
-      c.in_ok-names.ensures
-      ∙ ap (λ (fs : List FileName). c.args.name.now ∷ map (λ (f : FileName). f.name) fs) (c.as_slice-3.ensures ∙ c.in_ok-named.ensures ∙ ap (flat_map files_of) c.as_slice-2.ensures) in
-    (subst (λ (fs : List (List ℕ)). HasProject held c.args.name.now (Ok fs)) (sym c.in_ok-with_project-in-Ok-read_files.ensures) has,
-    subst (HasNames held c.args.name.now) (sym names) (project_names held c.args.name.now c.args.project c.in-Ok.modules c.requires modules))
+    c.in_ok-names.ensures
+    ∙ ap (λ (fs : List FileName). c.args.name.now ∷ map (λ (f : FileName). f.name) fs) (c.as_slice-3.ensures ∙ c.in_ok-named.ensures ∙ ap (flat_map files_of) c.as_slice-2.ensures) in (
+      subst (λ (fs : List (List ℕ)). HasProject held c.args.name.now (Ok fs)) (sym c.in_ok-with_project-in-Ok-read_files.ensures) has,
+      subst (HasNames held c.args.name.now) (sym names) (project_names held c.args.name.now c.args.project c.in-Ok.modules c.requires modules),
+    )

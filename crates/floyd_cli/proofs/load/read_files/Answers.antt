@@ -24,9 +24,9 @@ returns-in_err-bytes-clause-gives g c =
     let p = err_from_is_err_and c.from_residual.result c.from_residual.ensures.1 in
     let is : file ≡ get_or c.args.named.now c.file.file-index file = c.file-item.is in
     let stop : ReadsNext held project c.file.total file (g.H.Shelf.faults c.file.shelf) (g.H.Shelf.faults c.read_next.new.shelf) (Err c.in_err-bytes.field-0.0) =
-      subst (λ (h : Option Files). ReadsNext h project c.file.total file (g.H.Shelf.faults c.file.shelf) (g.H.Shelf.faults c.read_next.new.shelf) (Err c.in_err-bytes.field-0.0)) c.file.invariant.held c.in_err-bytes.ensures.gives in
+    subst (λ (h : Option Files). ReadsNext h project c.file.total file (g.H.Shelf.faults c.file.shelf) (g.H.Shelf.faults c.read_next.new.shelf) (Err c.in_err-bytes.field-0.0)) c.file.invariant.held c.in_err-bytes.ensures.gives in
     rw (p.1, p.2) (stopped_at held project c.args.named.now c.file.files c.file.total c.file.file-index file (g.H.Shelf.faults c.file.shelf) (g.H.Shelf.faults c.read_next.new.shelf)
-      c.in_err-bytes.field-0.0 c.file-test.true is c.file.invariant.leads stop (g.H.Shelf.faults c.args.shelf.now) c.file.invariant.later)
+    c.in_err-bytes.field-0.0 c.file-test.true is c.file.invariant.leads stop (g.H.Shelf.faults c.args.shelf.now) c.file.invariant.later)
 
 pub file-preserved : goal.file-preserved
 file-preserved g c =
@@ -40,7 +40,7 @@ file-preserved g c =
     let is : file ≡ get_or named c.file.file-index file = c.file-item.is in
     let next : HasNext held project total file (Ok bytes) = subst (λ (h : Option Files). HasNext h project total file (Ok bytes)) c.file.invariant.held c.in_ok-bytes.ensures.gives in
     let more : Leads held project named (c.file.files ++ bytes ∷ []) (total + length bytes) rest =
-      leads_more_at held project named c.file.files total c.file.file-index file bytes c.file-test.true is c.file.invariant.leads next in
+    leads_more_at held project named c.file.files total c.file.file-index file bytes c.file-test.true is c.file.invariant.leads next in
     record {
       held = c.in_ok-bytes.ensures.held ∙ c.file.invariant.held;
       later = omega (arith, c.file.invariant.later, c.in_ok-bytes.ensures.later);

@@ -17,4 +17,4 @@ returns-in_ok-refuse-in-Err-Refused-clause-gives g c =
     let held = g.H.Shelf.held c.args.shelf.now in
     subst (λ (a : Answer). Judged held c.args.name.now a.status a.text) (sym c.in_ok-refuse-in-Err-Refused.ensures)
     (judged_refusal held c.args.name.now c.in-Err-Refused.refusal
-      (subst (λ (e : LoadStop). Loads held c.args.name.now (g.H.Shelf.faults c.args.shelf.now) (g.H.Shelf.faults c.load.new.shelf) (Err e)) c.in-Err-Refused.field-0-is c.in-Err-Refused.ensures.gives))
+    (subst (λ (e : LoadStop). Loads held c.args.name.now (g.H.Shelf.faults c.args.shelf.now) (g.H.Shelf.faults c.load.new.shelf) (Err e)) c.in-Err-Refused.field-0-is c.in-Err-Refused.ensures.gives))

@@ -8,6 +8,6 @@ use Rattle.floyd_play.proofs.playing.play.Goals as goal
 pub returns-in-0-clause-holds : goal.returns-in-0-clause-holds
 returns-in-0-clause-holds c =
     λ n. start_holds_for n c.args.proof.now c.args.start
-      (sym c.commands.invariant.played
-      ∙ ap (λ cs. played_from cs c.args.proof.now.end c.commands.goals) (drop_all c.commands.command-index c.as_slice-command-items.result.now c.commands-test.false)
-      ∙ end_none c.args.proof.now.end c.commands.goals.left (sym c.left.ensures ∙ c.in-0.is))
+    (sym c.commands.invariant.played
+    ∙ ap (λ cs. played_from cs c.args.proof.now.end c.commands.goals) (drop_all c.commands.command-index c.as_slice-command-items.result.now c.commands-test.false)
+    ∙ end_none c.args.proof.now.end c.commands.goals.left (sym c.left.ensures ∙ c.in-0.is))
