@@ -1,0 +1,13 @@
+pub mod CutLemmas
+pub mod GapLemmas
+pub mod LineLemmas
+pub mod LocalLemmas
+pub mod MoveLemmas
+pub mod NameLemmas
+pub mod NumberLemmas
+pub mod LinesLemmas
+pub mod ListLemmas
+pub mod OneCut
+pub mod OrderLemmas
+pub mod PackingLemmas
+pub mod PlaceLemmas

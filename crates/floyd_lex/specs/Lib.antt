@@ -1,0 +1,12 @@
+pub mod Classes
+pub mod Cuts
+pub mod Front
+pub mod Keywords
+pub mod Laws
+pub mod Lines
+pub mod Marks
+pub mod Numbers
+pub mod Packing
+pub mod Quotes
+pub mod Token
+pub mod Unicode

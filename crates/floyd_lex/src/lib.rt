@@ -1,0 +1,24 @@
+//! Files cut into tokens: sources of C, specifications and scripts.
+#![tactic(auto)]
+
+mod classes;
+mod cut;
+mod front;
+mod keywords;
+mod kinds;
+mod laws;
+mod lead;
+mod lines;
+mod list;
+mod marks;
+mod numbers;
+mod pieces;
+mod quotes;
+mod unicode;
+
+pub use cut::tokens;
+pub use kinds::{FileKind, Keyword, LiteralType, Punctuator, TokenKind};
+pub use laws::{
+    has_one_cut, lines_stand_alone, texts_stand_in_order, texts_stand_on_lines, tokens_suit,
+};
+pub use list::Tokens;

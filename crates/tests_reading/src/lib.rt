@@ -1,0 +1,5 @@
+//! Tests of the readers of files.
+#![tactic(auto)]
+
+#[cfg(test)]
+mod lexing;
