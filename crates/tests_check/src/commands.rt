@@ -7,10 +7,13 @@ use std::process::Abort;
 use std::test::Fail;
 
 const PROJECT: &str = "module one\nsource one.c\nspec one.fs\nscript one.fp\n";
+
 const SOURCE: &str = "int main(void){int x; x=1; return x;}\n";
-const SPEC: &str =
-    "DECLARE main PRE [] MAIN_PRE POST [int] PROP () RETURN (Vint(1)) SEP ();\n";
+
+const SPEC: &str = "DECLARE main PRE [] MAIN_PRE POST [int] PROP () RETURN (Vint(1)) SEP ();\n";
+
 const TWO: &str = "DECLARE main PRE [] MAIN_PRE POST [int] PROP () RETURN (Vint(2)) SEP ();\n";
+
 const SCRIPT: &str = "PROOF main\nforward;\nforward;\ncancel;\nQED\n";
 
 /// The files of a project `one.fpj`, and what `check one.fpj` writes of them.
@@ -299,15 +302,87 @@ fn each_project_has_its_verdict(rt: HostRuntime) -> Result<(), Fail> {
 #[test]
 fn each_answer_has_its_cause(rt: HostRuntime) -> Result<(), Fail> {
     let alloc = rt.alloc();
-    run(alloc, &rt, "check one.fpj", 0, 0, 100, Status::Done, CASES[0].text)?;
-    run(alloc, &rt, "check one.fpj", 2, 0, 100, Status::ReadFault, "")?;
-    run(alloc, &rt, "check one.fpj", 0, 2, 7, Status::WriteFault, "proved ")?;
-    run(alloc, &rt, "check two.fpj", 0, 0, 100, Status::Refused, "two.fpj:1:1: 101 MissingFile\n")?;
+    run(
+        alloc,
+        &rt,
+        "check one.fpj",
+        0,
+        0,
+        100,
+        Status::Done,
+        CASES[0].text,
+    )?;
+    run(
+        alloc,
+        &rt,
+        "check one.fpj",
+        2,
+        0,
+        100,
+        Status::ReadFault,
+        "",
+    )?;
+    run(
+        alloc,
+        &rt,
+        "check one.fpj",
+        0,
+        2,
+        7,
+        Status::WriteFault,
+        "proved ",
+    )?;
+    run(
+        alloc,
+        &rt,
+        "check two.fpj",
+        0,
+        0,
+        100,
+        Status::Refused,
+        "two.fpj:1:1: 101 MissingFile\n",
+    )?;
     run(alloc, &rt, "", 0, 0, 100, Status::Usage, "usage: word 1\n")?;
-    run(alloc, &rt, "--help", 0, 0, 100, Status::Usage, "usage: word 1\n")?;
-    run(alloc, &rt, "check", 0, 0, 100, Status::Usage, "usage: word 2\n")?;
-    run(alloc, &rt, "check one.fpj one", 0, 0, 100, Status::Usage, "usage: word 3\n")?;
-    run(alloc, &rt, "goal p f 1", 0, 0, 100, Status::Usage, "usage: word 1\n")?;
+    run(
+        alloc,
+        &rt,
+        "--help",
+        0,
+        0,
+        100,
+        Status::Usage,
+        "usage: word 1\n",
+    )?;
+    run(
+        alloc,
+        &rt,
+        "check",
+        0,
+        0,
+        100,
+        Status::Usage,
+        "usage: word 2\n",
+    )?;
+    run(
+        alloc,
+        &rt,
+        "check one.fpj one",
+        0,
+        0,
+        100,
+        Status::Usage,
+        "usage: word 3\n",
+    )?;
+    run(
+        alloc,
+        &rt,
+        "goal p f 1",
+        0,
+        0,
+        100,
+        Status::Usage,
+        "usage: word 1\n",
+    )?;
     Ok(())
 }
 
@@ -315,7 +390,12 @@ fn each_answer_has_its_cause(rt: HostRuntime) -> Result<(), Fail> {
 fn a_sure_sink_takes_the_text(rt: HostRuntime) -> Result<(), Fail> {
     let alloc = rt.alloc();
     let mut shelf = SureShelf::new(files(alloc, &CASES[0])?);
-    let answer = floyd(alloc, &words(alloc, "check one.fpj")?, &mut shelf, &mut SureSink);
+    let answer = floyd(
+        alloc,
+        &words(alloc, "check one.fpj")?,
+        &mut shelf,
+        &mut SureSink,
+    );
     assert!(rt; answer == Status::Done);
     Ok(())
 }
