@@ -1,0 +1,9 @@
+pub mod Faults
+pub mod FormulaLemmas
+pub mod FormulaSummaries
+pub mod Heights
+pub mod Parts
+pub mod PathLemmas
+pub mod Rewrites
+pub mod Summaries
+pub mod TermLemmas

@@ -1,0 +1,19 @@
+-- Definitions that contracts cite.
+pub mod Code
+pub mod FormulaCode
+pub mod FormulaPrints
+pub mod FormulaStored
+pub mod Formulas
+pub mod Made
+pub mod MadeFormulas
+pub mod Paths
+pub mod Plain
+pub mod Prints
+pub mod Replace
+pub mod Stored
+pub mod Types
+pub mod WellSorted
+pub use Rattle.floyd_sorts.specs.Heads
+pub use Rattle.floyd_sorts.specs.Rows
+pub use Rattle.floyd_sorts.specs.Sorts
+pub use Rattle.floyd_sorts.specs.Table
