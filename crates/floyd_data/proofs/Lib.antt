@@ -1,0 +1,10 @@
+pub mod AllFuns
+pub mod BitLaws
+pub mod DefaultSorts
+pub mod Examples
+pub mod FunValues
+pub mod OneValue
+pub mod Places
+pub mod SizedSorts
+pub mod Sorted
+pub mod TermValues
