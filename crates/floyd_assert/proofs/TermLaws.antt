@@ -1,5 +1,5 @@
 -- Laws of terms.
-use Rattle.std.proofs.Common.{◌≡◌, ℕ, ◌%◌, ◌^◌, Bool, true, false, refl}
+use Rattle.std.proofs.Common.{◌≡◌, ℕ, ◌%◌, ◌^◌, false, refl}
 use Rattle.floyd_int.specs.declared.kinds.Value.TheVariants.{Vint as VintValue}
 use Rattle.floyd_assert.specs.declared.term.Term.{Term, Number, Vint}
 use Rattle.floyd_assert.specs.declared.term.Term.TheBlock.{hidden-the_row-Term-0, shape-the_row-Term-0}

@@ -1,6 +1,6 @@
 -- A statement without its sequences and skips.
 use Rattle.std.specs.Prelude.{List, [], ◌∷◌, ◌++◌}
-use Rattle.floyd_clight.specs.declared.syntax.Stmt.{Stmt, Skip, Set, Seq', Return, Row_of-Stmt, end_of-Stmt, more_of-Stmt}
+use Rattle.floyd_clight.specs.declared.syntax.Stmt.{Stmt, Skip, Seq', Row_of-Stmt, end_of-Stmt, more_of-Stmt}
 
 abbrev mutual
   pub flat : Stmt → List Stmt

@@ -1,1 +1,3 @@
 -- Definitions that contracts cite.
+pub mod Returns
+pub mod Turns

@@ -8,13 +8,13 @@ use floyd_int::Value;
 use floyd_text::{No, RuleStop, Shown};
 use std::alloc::Global;
 
-/// The term of an expression: that of an int constant is its number, that of a temporary stands in LOCAL.
+/// The term of an expression: that of an int constant is its number, that of a temporary stands in LOCAL. No other is
+/// built yet.
 pub fn evaluate(alloc: Global, locals: &Locals, e: &Expr) -> Result<Term, RuleStop>
     ensures { RuleGives (λ t. t) result (evaluate_lem locals.now e.now) }
 {
     match e {
         Expr::Const(Value::Vint(bits), _) => Ok(Term::vint(alloc, u64::from(*bits))?),
-        Expr::Const(_, _) => Err(RuleStop::No(wrong_goal())),
         Expr::Temp(name, _) => match locals.get(name) {
             Some(term) => Ok(term.share()?),
             None => Err(RuleStop::No(No {
@@ -22,5 +22,6 @@ pub fn evaluate(alloc: Global, locals: &Locals, e: &Expr) -> Result<Term, RuleSt
                 shown: Shown::Name(name.share()?),
             })),
         },
+        _ => Err(RuleStop::No(wrong_goal())),
     }
 }

@@ -1,5 +1,5 @@
 -- A conjunction is built from its last formula on.
-use Rattle.std.proofs.Common.{◌≡◌, Bool, true, false, cond, not, List, [], ◌∷◌, ◌++◌, Option, Some, None, refl, sym, ◌∙◌, ap}
+use Rattle.std.proofs.Common.{◌≡◌, Bool, true, false, cond, not, List, [], ◌∷◌, ◌++◌, Option, Some, None, refl, ◌∙◌, ap}
 use Rattle.std.proofs.lemmas.List.{append-nil}
 use Rattle.floyd_assert.specs.declared.term.Term.{Term, Vint}
 use Rattle.floyd_assert.specs.declared.term.Term.TheBlock.{hidden-the_row-Term-0, shape-the_row-Term-0}

@@ -1,5 +1,5 @@
 -- LOCAL after a temporary is set, terms of expressions, and equations of two LOCALs.
-use Rattle.std.proofs.Common.{◌≡◌, ℕ, ◌%◌, ◌^◌, ◌<◌, Bool, true, false, cond, List, [], ◌∷◌, Option, Some, None, Result, Ok, Err, refl, sym, ◌∙◌, subst, ap, bytes_eq}
+use Rattle.std.proofs.Common.{◌≡◌, ℕ, ◌^◌, Bool, true, false, cond, List, [], ◌∷◌, Option, Some, None, Result, Ok, Err, refl, sym, ◌∙◌, subst, ap, bytes_eq}
 use Rattle.std.proofs.Math.Nat.{mod-eq_of_lt}
 use Rattle.std.proofs.lemmas.Bool.{ltb-true}
 use Rattle.std.proofs.lemmas.Slice.Eq.{bytes_eq-Decides}
@@ -7,13 +7,13 @@ use Rattle.std.specs.Prelude.{nat_lt}
 use Rattle.floyd_text.specs.declared.refusal.No.{No}
 use Rattle.floyd_int.specs.declared.kinds.Value.{Value}
 use Rattle.floyd_int.specs.declared.kinds.Value.TheVariants.{Vundef, Vint as VintValue, Vlong, Vptr}
-use Rattle.floyd_clight.specs.declared.syntax.Expr.{Expr}
-use Rattle.floyd_clight.specs.declared.syntax.Expr.TheVariants.{Const, Temp}
+use Rattle.floyd_ctypes.specs.Structs.{Structs}
+use Rattle.floyd_clight.specs.declared.syntax.Expr.{Expr, Const, Temp, Var, Deref', AddrOf', Unary', Binary', Cast', Field', SizeOf}
 use Rattle.floyd_clight.specs.Evaluation.{Ident, Temps, Look, with_temp, eval_by}
 use Rattle.floyd_assert.specs.declared.term.Term.{Term, Number, Vint}
 use Rattle.floyd_assert.specs.declared.formula.Formula.{Formula, Equal}
 use Rattle.floyd_assert.specs.LocalTerms.{Locals, term_of, with_local}
-use Rattle.floyd_assert.specs.Data.{Env, Num, Val, value}
+use Rattle.floyd_assert.specs.Data.{Env, Val, value}
 use Rattle.floyd_assert.specs.Truth.{Truth, AllTrue}
 use Rattle.floyd_assert.specs.Assertions.{LocalsHold}
 use Rattle.floyd_assert.proofs.TermLaws.{value_vint}
@@ -69,31 +69,39 @@ set_holds x ls temps y t v h e =
     record { each = λ z s p. set_value x t s v (temps z) (term_of z ls) (bytes_eq z y) e (h.each z s) (sym (term_of_set z y t ls) ∙ p) }
 
 -- an expression has a value, for which its term stands
-pub record Evaluates (x : Env) (look : Look) (temps : Temps) (e : Expr) (t : Term) : Type 0 where
+pub record Evaluates (x : Env) (S : Structs) (look : Look) (temps : Temps) (e : Expr) (t : Term) : Type 0 where
   pub result : Value
-  pub is : eval_by look temps e ≡ Some result
+  pub is : eval_by S look temps e ≡ Some result
   pub stands : value x t ≡ Val result
 
-constant : (x : Env) (look : Look) (temps : Temps) (e : Expr) (n : ℕ) (t : Term) (b : Bool) → eval_by look temps e ≡ Some (VintValue n) → nat_lt n (2 ^ 32) ≡ b → cond b (Ok (Vint (Number n))) (Err wrong_goal) ≡ Ok t → Evaluates x look temps e t
-constant x look temps e n t true i f g =
+constant : (x : Env) (S : Structs) (look : Look) (temps : Temps) (e : Expr) (n : ℕ) (t : Term) (b : Bool) → eval_by S look temps e ≡ Some (VintValue n) → nat_lt n (2 ^ 32) ≡ b → cond b (Ok (Vint (Number n))) (Err wrong_goal) ≡ Ok t → Evaluates x S look temps e t
+constant x S look temps e n t true i f g =
     let p : Vint (Number n) ≡ t = cc in
     record {
       result = VintValue n;
       is = i;
       stands = subst (λ s. value x s ≡ Val (VintValue n)) p (value_vint x (Number n) ∙ ap (λ k. Val (VintValue k)) (mod-eq_of_lt (ltb-true n (2 ^ 32) f)));
     }
-constant x look temps e n t false i f g = cc
+constant x S look temps e n t false i f g = cc
 
-found : (x : Env) (look : Look) (temps : Temps) (e : Expr) (y : Ident) (t : Term) (o : Option Term) → eval_by look temps e ≡ Some (temps y) → (o ≡ Some t → value x t ≡ Val (temps y)) → or_refused (no_temp y) o ≡ Ok t → Evaluates x look temps e t
-found x look temps e y t None i f g = cc
-found x look temps e y t (Some s) i f g = let p : Some s ≡ Some t = cc in record { result = temps y; is = i; stands = f p }
+found : (x : Env) (S : Structs) (look : Look) (temps : Temps) (e : Expr) (y : Ident) (t : Term) (o : Option Term) → eval_by S look temps e ≡ Some (temps y) → (o ≡ Some t → value x t ≡ Val (temps y)) → or_refused (no_temp y) o ≡ Ok t → Evaluates x S look temps e t
+found x S look temps e y t None i f g = cc
+found x S look temps e y t (Some s) i f g = let p : Some s ≡ Some t = cc in record { result = temps y; is = i; stands = f p }
 
-pub evaluate_holds : (x : Env) (look : Look) (ls : Locals) (temps : Temps) (e : Expr) (t : Term) → LocalsHold x ls temps → evaluate ls e ≡ Ok t → Evaluates x look temps e t
-evaluate_holds x look ls temps (Const Vundef ty) t h e = cc
-evaluate_holds x look ls temps (Const (VintValue n) ty) t h e = constant x look temps (Const (VintValue n) ty) n t (nat_lt n (2 ^ 32)) refl refl e
-evaluate_holds x look ls temps (Const (Vlong n) ty) t h e = cc
-evaluate_holds x look ls temps (Const (Vptr b o) ty) t h e = cc
-evaluate_holds x look ls temps (Temp y ty) t h e = found x look temps (Temp y ty) y t (term_of y ls) refl (h.each y t) e
+pub evaluate_holds : (x : Env) (S : Structs) (look : Look) (ls : Locals) (temps : Temps) (e : Expr) (t : Term) → LocalsHold x ls temps → evaluate ls e ≡ Ok t → Evaluates x S look temps e t
+evaluate_holds x S look ls temps (Const Vundef ty) t h e = cc
+evaluate_holds x S look ls temps (Const (VintValue n) ty) t h e = constant x S look temps (Const (VintValue n) ty) n t (nat_lt n (2 ^ 32)) refl refl e
+evaluate_holds x S look ls temps (Const (Vlong n) ty) t h e = cc
+evaluate_holds x S look ls temps (Const (Vptr b o) ty) t h e = cc
+evaluate_holds x S look ls temps (Temp y ty) t h e = found x S look temps (Temp y ty) y t (term_of y ls) refl (h.each y t) e
+evaluate_holds x S look ls temps (Var y ty) t h e = cc
+evaluate_holds x S look ls temps (Deref' p d ty) t h e = cc
+evaluate_holds x S look ls temps (AddrOf' p d ty) t h e = cc
+evaluate_holds x S look ls temps (Unary' op p d ty) t h e = cc
+evaluate_holds x S look ls temps (Binary' op p c q d ty) t h e = cc
+evaluate_holds x S look ls temps (Cast' p d ty) t h e = cc
+evaluate_holds x S look ls temps (Field' p d y ty) t h e = cc
+evaluate_holds x S look ls temps (SizeOf of ty) t h e = cc
 
 -- an equation of two LOCALs
 equation_true : (x : Env) (temps : Temps) (y : Ident) (t : Term) (f : Formula) (o : Option Term) → ((s : Term) → o ≡ Some s → value x s ≡ Val (temps y)) → and_then (or_refused (no_local y) o) (λ s. Ok (Equal s t)) ≡ Ok f → Truth x f → value x t ≡ Val (temps y)

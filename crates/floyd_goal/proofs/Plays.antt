@@ -1,5 +1,5 @@
 -- A proof that plays through makes its start hold.
-use Rattle.std.proofs.Common.{◌≡◌, ℕ, ◌+◌, List, [], ◌∷◌, ◌++◌, length, Option, Some, None, Result, Ok, Err, refl, sym, ◌∙◌, subst, ap}
+use Rattle.std.proofs.Common.{◌≡◌, ℕ, ◌+◌, List, [], ◌∷◌, ◌++◌, length, Result, Ok, Err, refl}
 use Rattle.floyd_text.specs.declared.place.Place.{Place}
 use Rattle.floyd_text.specs.declared.refusal.No.{No}
 use Rattle.floyd_text.specs.declared.refusal.Refusal.{Refusal}
@@ -11,7 +11,7 @@ use Rattle.floyd_runs.specs.World.{World}
 use Rattle.floyd_runs.specs.Linked.{world}
 use Rattle.floyd_goal.specs.GoalHolds.{GoalHolds, HoldsFor}
 use Rattle.floyd_goal.specs.Rows.{row}
-use Rattle.floyd_goal.specs.Derivation.{Play, numbered, at_end, on_row, on_first, after, then_play, played_from, played}
+use Rattle.floyd_goal.specs.Derivation.{Play, numbered, at_end, on_row, on_first, then_play, played_from, played}
 use Rattle.floyd_goal.proofs.RowLaws.{AllHold, row_holds}
 
 abbrev LeftHold : World → ℕ → List Numbered → Type 0

@@ -1,5 +1,5 @@
 -- A main whose proof plays through is sound.
-use Rattle.std.proofs.Common.{◌≡◌, ℕ, Bool, true, false, cond, List, [], ◌∷◌, ◌++◌, Option, Some, None, Result, Ok, refl, sym, ◌∙◌, subst, ap, bytes_eq}
+use Rattle.std.proofs.Common.{◌≡◌, ℕ, Bool, true, false, cond, List, [], ◌∷◌, Option, Some, None, Ok, refl, sym, subst, ap, bytes_eq}
 use Rattle.std.specs.Prelude.{option_map}
 use Rattle.std.proofs.lemmas.Slice.Eq.{bytes_eq-Decides}
 use Rattle.floyd_int.specs.declared.kinds.Value.{Value}
@@ -14,25 +14,27 @@ use Rattle.floyd_assert.specs.declared.funspec.Precondition.TheVariants.{Main}
 use Rattle.floyd_assert.specs.declared.funspec.Funspec.{Funspec}
 use Rattle.floyd_assert.specs.Heaplet.{Heaplet, empty}
 use Rattle.floyd_assert.specs.Data.{Env}
-use Rattle.floyd_assert.specs.Spec.{Asked, Pre, Post}
+use Rattle.floyd_assert.specs.Spec.{Asked}
 use Rattle.floyd_assert.specs.declared.term.Term.{Term}
 use Rattle.floyd_runs.specs.World.{World}
-use Rattle.floyd_runs.specs.Linked.{Function, Linked, function, program, PreOf, PostOf, world, main, int, main_body, linked}
+use Rattle.floyd_runs.specs.Linked.{Function, PreOf, PostOf, world, main, int, main_body, linked}
 use Rattle.floyd_runs.specs.Runs.{has_result}
-use Rattle.floyd_runs.specs.Sound.{IsStart, Sound}
-use Rattle.floyd_runs.specs.Safe.{Exit, Normal, Returned, Exits, Part, Safe, with_normal, CallExits, KeepsBelow, SafeAll}
+use Rattle.floyd_runs.specs.Sound.{Sound}
+use Rattle.floyd_runs.specs.Safe.{Exit, Normal, Broke, Continued, Returned, Exits, Part, with_normal, CallExits, SafeAll}
 use Rattle.floyd_runs.proofs.HeapLaws.{right_empty}
 use Rattle.floyd_runs.proofs.Safety.{conseq}
-use Rattle.floyd_runs.proofs.Induction.{body_exits, StartsWith, DefHolds, AllHold}
+use Rattle.floyd_runs.proofs.Induction.{body_exits, DefHolds, AllHold}
 use Rattle.floyd_runs.proofs.Adequate.{EndsWell, sound_run}
 use Rattle.floyd_goal.specs.declared.script.Proof.{Proof}
 use Rattle.floyd_goal.specs.declared.goal.Exits as g
-use Rattle.floyd_goal.specs.GoalHolds.{Stands, Gives, Leaves, GoalHolds}
+use Rattle.floyd_goal.specs.GoalHolds.{Stands, Leaves, GoalHolds}
 use Rattle.floyd_goal.specs.Derivation.{nowhere, start_source, main_start, played}
 use Rattle.floyd_goal.proofs.Plays.{start_holds}
 
 exits_map : (E E' F F' : Exits) (A A' : Act → Heaplet → Type 0) → ((act : Act) (h : Heaplet) → A act h → A' act h) → ((x : Exit) (h : Heaplet) → E x h → E' x h) → (x : Exit) (h : Heaplet) → with_normal A E x h → with_normal A' E' x h
 exits_map E E' F F' A A' f g (Normal act) h p = f act h p
+exits_map E E' F F' A A' f g (Broke act) h p = g (Broke act) h p
+exits_map E E' F F' A A' f g (Continued act) h p = g (Continued act) h p
 exits_map E E' F F' A A' f g (Returned v) h p = g (Returned v) h p
 
 -- statements are safe for weaker exits too
@@ -60,6 +62,8 @@ main_exits spec = record { normal = nowhere; ret = record { post = spec.post; va
 
 leaves_main : (statements : List Stmt) (spec : Funspec) (f : Ident) → bytes_eq f main ≡ true → (x : Env) (e : Exit) (h : Heaplet) → Leaves x (main_exits spec) e h → body_exits (world (linked statements spec)) f x e h
 leaves_main statements spec f i x (Normal act) h p = absurd p.holds.prop.0
+leaves_main statements spec f i x (Broke act) h p = absurd p
+leaves_main statements spec f i x (Continued act) h p = absurd p
 leaves_main statements spec f i x (Returned v) h p = (
   subst (λ b. has_result (def_if statements spec b) v ≡ true) (sym i) p.typed,
   subst (λ b. PostOf (if_main statements spec b) x v h) (sym i) (record { prop = p.prop; returned = p.returned; sep = p.sep }),

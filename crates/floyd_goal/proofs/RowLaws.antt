@@ -6,8 +6,8 @@ use Rattle.floyd_int.specs.declared.kinds.Value.{Value}
 use Rattle.floyd_ctypes.specs.declared.ctype.CType.{CType}
 use Rattle.floyd_ctypes.specs.Has.{has}
 use Rattle.floyd_clight.specs.declared.syntax.Expr.{Expr}
-use Rattle.floyd_clight.specs.declared.syntax.Stmt.{Stmt, Skip, Set, Seq', Return as ReturnStmt}
-use Rattle.floyd_clight.specs.Evaluation.{Ident, Temps, with_temp}
+use Rattle.floyd_clight.specs.declared.syntax.Stmt.{Stmt, Skip, Set, Assign, Call, Seq', If', Loop', Break, Continue, Return as ReturnStmt}
+use Rattle.floyd_clight.specs.Evaluation.{Ident, Temps}
 use Rattle.floyd_clight.specs.Machine.{Act, set_in}
 use Rattle.floyd_assert.specs.declared.term.Term.{Term}
 use Rattle.floyd_assert.specs.declared.formula.Formula.{Formula, Equal, Hasty}
@@ -16,20 +16,20 @@ use Rattle.floyd_assert.specs.declared.assertion.Sep.TheVariants.{TT}
 use Rattle.floyd_assert.specs.declared.assertion.Assertion.{Assertion}
 use Rattle.floyd_assert.specs.Heaplet.{Heaplet, empty, seen}
 use Rattle.floyd_assert.specs.Data.{Datum, Val, Env, value}
-use Rattle.floyd_assert.specs.Truth.{IsOfType, Truth, AllTrue}
-use Rattle.floyd_assert.specs.Assertions.{PartHolds, PartsHold, LocalsHold, Holds}
+use Rattle.floyd_assert.specs.Truth.{IsOfType, AllTrue}
+use Rattle.floyd_assert.specs.Assertions.{PartsHold, Holds}
 use Rattle.floyd_goal.specs.declared.goal.Context.{Context}
 use Rattle.floyd_goal.specs.declared.goal.Exits.{Exits}
 use Rattle.floyd_goal.specs.declared.goal.Goal.{Goal}
-use Rattle.floyd_goal.specs.declared.goal.Goal.TheVariants.{Run, Entail, Pure}
+use Rattle.floyd_goal.specs.declared.goal.Goal.TheVariants.{Run, Entail}
 use Rattle.floyd_runs.specs.World.{World}
-use Rattle.floyd_runs.specs.Safe.{Exit, Normal, Returned, KeepsBelow, SafeAll, with_normal}
+use Rattle.floyd_runs.specs.Safe.{KeepsBelow, SafeAll, with_normal}
 use Rattle.floyd_runs.proofs.HeapLaws.{right_empty}
-use Rattle.floyd_runs.proofs.Steps.{SetFrom, set_safe, ReturnOf, ReturnFrom, return_safe}
-use Rattle.floyd_goal.specs.GoalHolds.{Stands, Gives, Leaves, GoalHolds}
-use Rattle.floyd_goal.specs.Rows.{wrong_goal, and_then, evaluate, kept, conjunction, side_goals, with_hypotheses, run_goal, with_source_local, returned_post, forward_set, forward_return, forward, equations, has_left, part_left, cancel, row}
+use Rattle.floyd_runs.proofs.Steps.{set_safe, return_safe}
+use Rattle.floyd_goal.specs.GoalHolds.{Stands, Leaves, GoalHolds}
+use Rattle.floyd_goal.specs.Rows.{wrong_goal, and_then, evaluate, kept, conjunction, side_goals, run_goal, with_source_local, forward_set, forward_return, forward, equations, has_left, part_left, cancel, row}
 use Rattle.floyd_goal.proofs.Truths.{kept_true, TruthOf, conjunction_true, all_true_append, all_true_front}
-use Rattle.floyd_goal.proofs.LocalTruths.{set_holds, Evaluates, evaluate_holds, equations_hold}
+use Rattle.floyd_goal.proofs.LocalTruths.{set_holds, evaluate_holds, equations_hold}
 
 abbrev pub AllHold : World → ℕ → List Goal → Type 0
 AllHold W n [] = Unit {0}
@@ -56,7 +56,7 @@ run_safe W n context source (t ∷ ss) exits p x hs keeps act h s = p x hs keeps
 
 set_row : (W : World) (n : ℕ) (context : Context) (source : Assertion) (exits : Exits) (ss : List Stmt) (y : Ident) (e : Expr) (t : Term) → evaluate source.local e ≡ Ok t → AllHold W n (forward_set context source exits ss y t) → (x : Env) → AllTrue x context.hypotheses → KeepsBelow W n → (act : Act) (h : Heaplet) → Stands x exits.ret.result source act h → SafeAll W n (Set y e ∷ ss) (Leaves x exits) act h
 set_row W n context source exits ss y e t i p x hs keeps act h s =
-    let v = evaluate_holds x (seen h) source.local act.temps e t s.holds.local i in
+    let v = evaluate_holds x W.program.structs (seen h) source.local act.temps e t s.holds.local i in
     set_safe W n y e act h (with_normal (SafeAll W n ss (Leaves x exits)) (Leaves x exits)) (record {
       value = v.result;
       evaluates = v.is;
@@ -76,7 +76,7 @@ typed_as t d v e p = subst (IsOfType t) e p
 
 return_row : (W : World) (n : ℕ) (context : Context) (source : Assertion) (exits : Exits) (ss : List Stmt) (e : Expr) (t : Term) → evaluate source.local e ≡ Ok t → AllHold W n (forward_return context source exits t) → (x : Env) → AllTrue x context.hypotheses → KeepsBelow W n → (act : Act) (h : Heaplet) → Stands x exits.ret.result source act h → SafeAll W n (ReturnStmt (Some e) ∷ ss) (Leaves x exits) act h
 return_row W n context source exits ss e t i p x hs keeps act h s =
-    let v = evaluate_holds x (seen h) source.local act.temps e t s.holds.local i in
+    let v = evaluate_holds x W.program.structs (seen h) source.local act.temps e t s.holds.local i in
     let q = all_hold_front W n (side_goals context (conjunction (kept (Hasty exits.ret.result t ∷ [])))) _ p in
     let sides = side_true W n context (Hasty exits.ret.result t ∷ []) q.0 x hs in
     let typed = typed_as exits.ret.result (value x t) v.result v.stands (kept_true x (Hasty exits.ret.result t ∷ []) sides).0 in
@@ -120,7 +120,13 @@ forward_holds W n context source exits (Skip ∷ ss) gs e p = cc
 forward_holds W n context source exits (Set y d ∷ ss) gs e p =
     let r = steps_of (evaluate source.local d) (λ t. Ok (forward_set context source exits ss y t)) gs e in
     set_row W n context source exits ss y d r.first r.is (subst (AllHold W n) (sym (ok_is r.gives)) p)
+forward_holds W n context source exits (Assign d c ∷ ss) gs e p = cc
+forward_holds W n context source exits (Call to d ds ∷ ss) gs e p = cc
 forward_holds W n context source exits (Seq' shape all ∷ ss) gs e p = cc
+forward_holds W n context source exits (If' d i a j b ∷ ss) gs e p = cc
+forward_holds W n context source exits (Loop' i a j b ∷ ss) gs e p = cc
+forward_holds W n context source exits (Break ∷ ss) gs e p = cc
+forward_holds W n context source exits (Continue ∷ ss) gs e p = cc
 forward_holds W n context source exits (ReturnStmt None ∷ ss) gs e p = cc
 forward_holds W n context source exits (ReturnStmt (Some d) ∷ ss) gs e p =
     let r = steps_of (evaluate source.local d) (λ t. Ok (forward_return context source exits t)) gs e in

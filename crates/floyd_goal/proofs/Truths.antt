@@ -1,13 +1,12 @@
 -- Where the side formulas that are kept are true, all are.
-use Rattle.std.proofs.Common.{◌≡◌, ℕ, zero, ◌%◌, ◌^◌, ◌<◌, Bool, true, false, cond, not, ◌&&◌, List, [], ◌∷◌, ◌++◌, Option, Some, None, refl, sym, ◌∙◌, subst, ap, arith, lit<}
+use Rattle.std.proofs.Common.{◌≡◌, ◌%◌, ◌^◌, Bool, true, false, cond, not, ◌&&◌, List, [], ◌∷◌, ◌++◌, Option, Some, None, refl, ap, lit<}
 use Rattle.std.proofs.Math.Nat.{mod-lt}
 use Rattle.std.proofs.lemmas.Bool.{lt-ltb, eqb-true}
-use Rattle.std.specs.Prelude.{filter}
 use Rattle.floyd_int.specs.declared.kinds.IntKind.TheVariants.{I8, U8, I16, U16, I32, U32, I64, U64}
 use Rattle.floyd_int.specs.declared.kinds.Value.TheVariants.{Vint as VintValue}
 use Rattle.floyd_ctypes.specs.declared.ctype.CType.{CType, Void, Int, Pointer', Array', Struct, Function'}
 use Rattle.floyd_assert.specs.declared.term.Term.{Term, Number, Vint' as Vint_term, more_of-Term, end_of-Term}
-use Rattle.floyd_assert.specs.declared.formula.Formula.{Formula, True, False, Equal, Hasty, And, And', more_of-Formula, end_of-Formula}
+use Rattle.floyd_assert.specs.declared.formula.Formula.{Formula, True, False, Equal, Hasty, And, And'}
 use Rattle.floyd_assert.specs.declared.formula.Formula.TheBlock.{hidden-the_row-Formula-0, shape-the_row-Formula-0}
 use denote.Hole.Carrier.{hidden}
 use Rattle.floyd_assert.specs.Terms.{same_term}

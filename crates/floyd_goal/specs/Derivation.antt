@@ -1,5 +1,5 @@
 -- The proof of main: its start, and the commands of a script, each in place of the first goal that is left.
-use Rattle.std.specs.Prelude.{ℕ, ◌+◌, List, [], ◌∷◌, ◌++◌, length, Option, Some, Result, Ok, Err}
+use Rattle.std.specs.Prelude.{ℕ, ◌+◌, List, [], ◌∷◌, ◌++◌, length, Result, Ok, Err}
 use Rattle.floyd_text.specs.declared.place.Place.{Place}
 use Rattle.floyd_text.specs.declared.refusal.No.{No}
 use Rattle.floyd_text.specs.declared.refusal.Refusal.{Refusal}
@@ -13,8 +13,6 @@ use Rattle.floyd_assert.specs.declared.assertion.Assertion.{Assertion}
 use Rattle.floyd_assert.specs.declared.funspec.Precondition.{Precondition}
 use Rattle.floyd_assert.specs.declared.funspec.Precondition.TheVariants.{Main}
 use Rattle.floyd_assert.specs.declared.funspec.Funspec.{Funspec}
-use Rattle.floyd_goal.specs.declared.goal.Exits.{Exits}
-use Rattle.floyd_goal.specs.declared.goal.Run as run
 use Rattle.floyd_goal.specs.declared.goal.Goal.{Goal}
 use Rattle.floyd_goal.specs.declared.goal.Goal.TheVariants.{Run}
 use Rattle.floyd_goal.specs.declared.stack.Numbered.{Numbered}

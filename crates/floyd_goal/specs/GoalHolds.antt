@@ -1,5 +1,5 @@
 -- When a goal holds, for n steps of the machine.
-use Rattle.std.specs.Prelude.{◌≡◌, ℕ, true, List, []}
+use Rattle.std.specs.Prelude.{◌≡◌, ℕ, true, []}
 use Rattle.floyd_int.specs.declared.kinds.Value.{Value}
 use Rattle.floyd_ctypes.specs.declared.ctype.CType.{CType}
 use Rattle.floyd_ctypes.specs.Has.{has}
@@ -16,7 +16,7 @@ use Rattle.floyd_goal.specs.declared.goal.Exits.{Exits}
 use Rattle.floyd_goal.specs.declared.goal.Return as r
 use Rattle.floyd_runs.specs.World.{World}
 use Rattle.floyd_runs.specs.Linked.{Linked, world}
-use Rattle.floyd_runs.specs.Safe.{Exit, Normal, Returned, KeepsBelow, SafeAll}
+use Rattle.floyd_runs.specs.Safe.{Exit, Normal, Broke, Continued, Returned, KeepsBelow, SafeAll}
 
 -- an activation without local blocks meets an assertion
 pub record Stands (x : Env) (result : CType) (a : Assertion) (act : Act) (h : Heaplet) : Type 0 where
@@ -31,9 +31,11 @@ pub record Gives (x : Env) (ret : r.Return) (v : Value) (h : Heaplet) : Type 0 w
   pub returned : value x ret.value ≡ Val v
   pub sep : PartsHold ret.post.sep h
 
--- the ways out are met
+-- the ways out are met; there is none for break and continue yet
 abbrev pub Leaves : Env → Exits → Exit → Heaplet → Type 0
 Leaves x e (Normal act) h = Stands x e.ret.result e.normal act h
+Leaves x e (Broke act) h = ⊥
+Leaves x e (Continued act) h = ⊥
 Leaves x e (Returned v) h = Gives x e.ret v h
 
 abbrev pub GoalHolds : World → ℕ → Goal → Type 0

@@ -1,28 +1,23 @@
 -- What each command makes of a goal: the goals in its place, or the first condition that fails.
-use Rattle.std.specs.Prelude.{ℕ, ◌^◌, nat_lt, Bool, true, false, not, ◌&&◌, ◌==◌, List, [], ◌∷◌, ◌++◌, filter, Option, Some, None, Result, Ok, Err, if◌then◌else◌, bytes_eq}
+use Rattle.std.specs.Prelude.{◌^◌, nat_lt, Bool, true, false, not, ◌&&◌, List, [], ◌∷◌, ◌++◌, filter, Option, Some, None, Result, Ok, Err, if◌then◌else◌}
 use Rattle.floyd_text.specs.declared.refusal.No.{No}
-use Rattle.floyd_text.specs.declared.refusal.Shown.{Shown}
 use Rattle.floyd_text.specs.declared.refusal.Shown.TheVariants.{Nothing, Name, Part as PartShown}
 use Rattle.floyd_text.specs.declared.refusal.Rule as c
 use Rattle.floyd_int.specs.declared.kinds.IntKind.TheVariants.{I32, U32}
 use Rattle.floyd_int.specs.declared.kinds.Value.TheVariants.{Vint as VintValue}
 use Rattle.floyd_ctypes.specs.declared.ctype.CType.{CType, Int}
-use Rattle.floyd_clight.specs.declared.syntax.Expr.{Expr}
-use Rattle.floyd_clight.specs.declared.syntax.Expr.TheVariants.{Const, Temp}
+use Rattle.floyd_clight.specs.declared.syntax.Expr.{Expr, Const, Temp}
 use Rattle.floyd_clight.specs.declared.syntax.Stmt.{Stmt, Set, Return as ReturnStmt}
 use Rattle.floyd_clight.specs.Evaluation.{Ident}
 use Rattle.floyd_assert.specs.declared.term.Term.{Term, Number, Vint, Vint' as Vint_term, more_of-Term, end_of-Term}
 use Rattle.floyd_assert.specs.Terms.{same_term}
 use Rattle.floyd_assert.specs.LocalTerms.{Locals, term_of, with_local}
-use Rattle.floyd_assert.specs.declared.formula.Formula.{Formula, True, False, Equal, Hasty, And}
+use Rattle.floyd_assert.specs.declared.formula.Formula.{Formula, Equal, Hasty, And}
 use Rattle.floyd_assert.specs.declared.assertion.Sep.{Sep}
 use Rattle.floyd_assert.specs.declared.assertion.Sep.TheVariants.{TT}
 use Rattle.floyd_assert.specs.declared.assertion.Assertion.{Assertion}
 use Rattle.floyd_goal.specs.declared.goal.Context.{Context}
 use Rattle.floyd_goal.specs.declared.goal.Exits.{Exits}
-use Rattle.floyd_goal.specs.declared.goal.Run as run
-use Rattle.floyd_goal.specs.declared.goal.Entail as entail
-use Rattle.floyd_goal.specs.declared.goal.Pure as pure
 use Rattle.floyd_goal.specs.declared.goal.Goal.{Goal}
 use Rattle.floyd_goal.specs.declared.goal.Goal.TheVariants.{Run, Entail, Pure}
 
@@ -47,11 +42,11 @@ abbrev pub or_refused : No → Option Term → Result Term No
 or_refused e None = Err e
 or_refused e (Some t) = Ok t
 
--- the term of an expression: an int constant's number, or a temporary's term
+-- the term of an expression: an int constant's number, or a temporary's term; no other is built yet
 abbrev pub evaluate : Locals → Expr → Result Term No
 evaluate locals (Const (VintValue n) t) = if nat_lt n (2 ^ 32) then Ok (Vint (Number n)) else Err wrong_goal
-evaluate locals (Const v t) = Err wrong_goal
 evaluate locals (Temp x t) = or_refused (no_temp x) (term_of x locals)
+evaluate locals e = Err wrong_goal
 
 -- an int or an unsigned int
 abbrev pub is_word : CType → Bool

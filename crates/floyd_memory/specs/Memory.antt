@@ -1,5 +1,5 @@
 -- CompCert's memory: blocks of bytes with permissions. A block is named by its number, from 0 on.
-use Rattle.std.specs.Prelude.{ℕ, zero, suc, ◌+◌, Bool, true, false, List, [], ◌∷◌, ◌++◌, map, length, replicate, Option, Some, None, if◌then◌else◌, nat_le}
+use Rattle.std.specs.Prelude.{ℕ, zero, suc, Bool, true, false, List, [], ◌∷◌, ◌++◌, map, length, replicate, Option, Some, None, if◌then◌else◌, nat_le}
 use Rattle.floyd_memval.specs.declared.bytes.MemByte.{MemByte}
 use Rattle.floyd_memval.specs.declared.bytes.MemByte.TheVariants.{Undef}
 

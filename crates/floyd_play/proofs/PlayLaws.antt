@@ -1,5 +1,5 @@
 -- What QED comes to.
-use Rattle.std.proofs.Common.{◌≡◌, List, [], ◌∷◌, length, Result, Ok, refl, arith}
+use Rattle.std.proofs.Common.{◌≡◌, List, [], ◌∷◌, length, Ok, refl, arith}
 use Rattle.floyd_text.specs.declared.place.Place.{Place}
 use Rattle.floyd_goal.specs.declared.stack.Numbered.{Numbered}
 use Rattle.floyd_goal.specs.Derivation.{at_end}

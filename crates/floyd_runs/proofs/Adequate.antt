@@ -1,20 +1,20 @@
 -- From safety to runs: no state is stuck, and each call that returns meets its postcondition.
-use Rattle.std.proofs.Common.{◌≡◌, ℕ, zero, suc, ◌+◌, ◌<◌, ◌⊎◌, inl, inr, List, [], ◌∷◌, ◌++◌, length, Option, Some, None, refl, sym, ◌∙◌, subst, ap, arith}
+use Rattle.std.proofs.Common.{◌≡◌, ℕ, zero, suc, inl, inr, List, [], ◌∷◌, ◌++◌, length, None, refl, sym, subst, ap, arith}
 use Rattle.std.proofs.lemmas.List.{length-append}
 use Rattle.floyd_int.specs.declared.kinds.Value.{Value}
 use Rattle.floyd_int.specs.declared.kinds.Value.TheVariants.{Vint}
 use Rattle.floyd_memory.specs.Memory.{Mem}
 use Rattle.floyd_clight.specs.declared.syntax.Stmt.{Stmt}
 use Rattle.floyd_clight.specs.Evaluation.{Ident}
-use Rattle.floyd_clight.specs.Machine.{Act, Config, Run, Calling, Returning, Frame, Kont, Outcome, Next, Asks, Ended, Stuck, call_kont, step}
+use Rattle.floyd_clight.specs.Machine.{Act, Config, Run, Calling, Returning, Frame, Kont, Outcome, Next, Asks, Ended, Stuck, step}
 use Rattle.floyd_assert.specs.Heaplet.{Heaplet, Joins, Fits}
 use Rattle.floyd_assert.specs.Data.{Env}
 use Rattle.floyd_runs.specs.World.{World}
-use Rattle.floyd_runs.specs.Runs.{Meets, IsLawful, Answer, State, run, run_on, AllLawful, lawful_on, Goes, NoneStuck, FirstReturn, CallMeets, CallsMeet}
-use Rattle.floyd_runs.specs.Safe.{Exit, Normal, Returned, Exits, Level, Whole, exit_of, Safe, StepsTo, Bounds, CallExits}
+use Rattle.floyd_runs.specs.Runs.{Answer, run, run_on, AllLawful, lawful_on, Goes, NoneStuck, FirstReturn, CallMeets, CallsMeet}
+use Rattle.floyd_runs.specs.Safe.{Returned, Exits, Whole, exit_of, Safe, StepsTo, Bounds, CallExits}
 use Rattle.floyd_runs.proofs.HeapLaws.{part}
-use Rattle.floyd_runs.proofs.Under.{IsCall, return_to, under, over, step_under, bounds_under, call_kont_is}
-use Rattle.floyd_runs.proofs.Bounded.{IsProper, Good, GoodOutcome, step_good, answer_keeps}
+use Rattle.floyd_runs.proofs.Under.{IsCall, under, over, step_under, bounds_under, call_kont_is}
+use Rattle.floyd_runs.proofs.Bounded.{Good, GoodOutcome, step_good, answer_keeps}
 use Rattle.floyd_runs.proofs.Induction.{AllHold, all_keep}
 
 -- a run may end at this exit

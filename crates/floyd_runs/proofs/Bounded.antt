@@ -2,15 +2,16 @@
 use Rattle.std.proofs.Common.{◌≡◌, ◌≢◌, ℕ, zero, suc, List, [], ◌∷◌, ◌++◌, Option, Some, None, Bool, true, false, cond, refl, sym, ◌∙◌, subst, ap}
 use Rattle.floyd_int.specs.declared.kinds.Value.{Value}
 use Rattle.floyd_int.specs.declared.kinds.Value.TheVariants.{Vundef, Vint, Vlong, Vptr}
-use Rattle.floyd_memory.specs.Memory.{Mem, Slot, Block, Kind, Perm, Local, Freeable, includes, all_include, nth, put, freed, free, free_block}
+use Rattle.floyd_memory.specs.Memory.{Mem, Slot, Block, Perm, Freeable, includes, all_include, nth, put, freed, free, free_block}
+use Rattle.floyd_ctypes.specs.Structs.{Structs}
 use Rattle.floyd_ctypes.specs.Has.{has}
 use Rattle.floyd_clight.specs.declared.syntax.Expr.{Expr}
-use Rattle.floyd_clight.specs.declared.syntax.Stmt.{Stmt, Skip, Set, Seq', Return, Row_of-Stmt, end_of-Stmt, more_of-Stmt}
+use Rattle.floyd_clight.specs.declared.syntax.Stmt.{Skip, Set, Assign, Call, Seq', If', Loop', Break, Continue, Return, end_of-Stmt, more_of-Stmt}
 use Rattle.floyd_clight.specs.Evaluation.{Ident, unset}
-use Rattle.floyd_clight.specs.Machine.{Act, LocalBlock, Config, Run, Calling, Returning, Frame, Kseq, Kcall, Kont, Outcome, Next, Asks, Ended, Stuck, Program, Def, Own, Ext, call_kont, on_some, eval, set_in, free_all, and_then, finish, step, step_call, step_return, step_back, bind_params, entered}
-use Rattle.floyd_runs.specs.Runs.{Keeps, Alike, perms, is_ext}
-use Rattle.floyd_runs.specs.Safe.{IsApart, IsLocal, AllIn, Bounds, config_blocks, kont_blocks}
-use Rattle.floyd_runs.proofs.Under.{IsCall, all_in_back}
+use Rattle.floyd_clight.specs.Machine.{Act, LocalBlock, Config, Run, Calling, Returning, Kseq, Kloop1, Kloop2, Kcall, Kont, Outcome, Next, Asks, Ended, Stuck, Program, Def, Own, Ext, call_kont, on_some, eval, test, set_in, free_all, and_then, finish, step, step_call, step_return, step_break, step_continue, step_back, bind_params, entered}
+use Rattle.floyd_runs.specs.Runs.{Keeps, perms, is_ext}
+use Rattle.floyd_runs.specs.Safe.{IsApart, IsLocal, AllIn, Bounds, kont_blocks}
+use Rattle.floyd_runs.proofs.Under.{IsCall}
 
 nth_put_other : {A : Type 0} → (xs : List A) (n k : ℕ) (y : A) → (n ≢ k) → nth (put xs n y) k ≡ nth xs k
 nth_put_other [] n k y ne = refl
@@ -39,11 +40,15 @@ free_all_keeps (l ∷ ls) ks m n a e =
 kont_blocks_call : (k : Kont) → kont_blocks (call_kont k) ≡ kont_blocks k
 kont_blocks_call [] = refl
 kont_blocks_call (Kseq s ∷ k) = kont_blocks_call k
+kont_blocks_call (Kloop1 a b ∷ k) = kont_blocks_call k
+kont_blocks_call (Kloop2 a b ∷ k) = kont_blocks_call k
 kont_blocks_call (Kcall to act ∷ k) = refl
 
 is_call_kont : (k : Kont) → IsCall (call_kont k)
 is_call_kont [] = tt
 is_call_kont (Kseq s ∷ k) = is_call_kont k
+is_call_kont (Kloop1 a b ∷ k) = is_call_kont k
+is_call_kont (Kloop2 a b ∷ k) = is_call_kont k
 is_call_kont (Kcall to act ∷ k) = tt
 
 -- a call and a return stand above the frame of a caller
@@ -80,9 +85,23 @@ call_good m None f args k a = tt
 call_good m (Some (Own fn)) f args k a = good_some m (bind_params fn.params args unset) (entered fn k m) (λ t e. (a, tt))
 call_good m (Some (Ext res)) f args k a = (subst (λ bs. AllIn bs m) (sym (kont_blocks_call k)) a, is_call_kont k)
 
-return_good : (m : Mem) (e : Option Expr) (k : Kont) (act : Act) → AllIn (act.blocks ++ kont_blocks k) m → GoodOutcome m (step_return e k act m)
-return_good m None k act a = finish_good act Vundef k m a
-return_good m (Some e) k act a = good_some m (eval m act e) (λ v. finish act v k m) (λ v p. finish_good act v k m a)
+return_good : (S : Structs) (m : Mem) (e : Option Expr) (k : Kont) (act : Act) → AllIn (act.blocks ++ kont_blocks k) m → GoodOutcome m (step_return S e k act m)
+return_good S m None k act a = finish_good act Vundef k m a
+return_good S m (Some e) k act a = good_some m (eval S m act e) (λ v. finish act v k m) (λ v p. finish_good act v k m a)
+
+break_good : (k : Kont) (act : Act) (m : Mem) → AllIn (act.blocks ++ kont_blocks k) m → GoodOutcome m (step_break k act m)
+break_good [] act m a = tt
+break_good (Kseq s ∷ k) act m a = (a, tt)
+break_good (Kloop1 s t ∷ k) act m a = (a, tt)
+break_good (Kloop2 s t ∷ k) act m a = (a, tt)
+break_good (Kcall to caller ∷ k) act m a = tt
+
+continue_good : (k : Kont) (act : Act) (m : Mem) → AllIn (act.blocks ++ kont_blocks k) m → GoodOutcome m (step_continue k act m)
+continue_good [] act m a = tt
+continue_good (Kseq s ∷ k) act m a = (a, tt)
+continue_good (Kloop1 s t ∷ k) act m a = (a, tt)
+continue_good (Kloop2 s t ∷ k) act m a = tt
+continue_good (Kcall to caller ∷ k) act m a = tt
 
 set_in_good : (to : Option Ident) (v : Value) (act : Act) (k : Kont) (m : Mem) → AllIn (act.blocks ++ kont_blocks k) m → AllIn ((set_in to v act).blocks ++ kont_blocks k) m
 set_in_good None v act k m a = a
@@ -94,18 +113,28 @@ back_good m (Vint n) [] a = tt
 back_good m (Vlong n) [] a = tt
 back_good m (Vptr b o) [] a = tt
 back_good m v (Kseq s ∷ k) a = tt
+back_good m v (Kloop1 s t ∷ k) a = tt
+back_good m v (Kloop2 s t ∷ k) a = tt
 back_good m v (Kcall to act ∷ k) a = (set_in_good to v act k m a, tt)
 
 -- each step keeps the bounds
 pub step_good : (P : Program) (c : Config) (m : Mem) → Good c m → GoodOutcome m (step P c m)
 step_good P (Run Skip [] act) m g = finish_good act Vundef [] m g.0
 step_good P (Run Skip (Kseq s ∷ k) act) m g = (g.0, tt)
+step_good P (Run Skip (Kloop1 a b ∷ k) act) m g = (g.0, tt)
+step_good P (Run Skip (Kloop2 a b ∷ k) act) m g = (g.0, tt)
 step_good P (Run Skip (Kcall to caller ∷ k) act) m g = finish_good act Vundef (Kcall to caller ∷ k) m g.0
-step_good P (Run (Set x e) k act) m g = good_some m (eval m act e) (λ v. Next (Run Skip k (set_in (Some x) v act)) m) (λ v p. (g.0, tt))
+step_good P (Run (Set x e) k act) m g = good_some m (eval P.structs m act e) (λ v. Next (Run Skip k (set_in (Some x) v act)) m) (λ v p. (g.0, tt))
+step_good P (Run (Assign p e) k act) m g = tt
+step_good P (Run (Call to f es) k act) m g = tt
 step_good P (Run (Seq' [] end_of-Stmt) k act) m g = (g.0, tt)
 step_good P (Run (Seq' (u ∷ shape) (more_of-Stmt s rest)) k act) m g = (g.0, tt)
-step_good P (Run (Return e) k act) m g = return_good m e k act g.0
-step_good P (Calling f args k) m g = call_good m (P f) f args k g.0
+step_good P (Run (If' e p (more_of-Stmt a end_of-Stmt) q (more_of-Stmt b end_of-Stmt)) k act) m g = good_some m (test P.structs m act e) (λ t. Next (Run (cond t a b) k act) m) (λ t i. (g.0, tt))
+step_good P (Run (Loop' p (more_of-Stmt a end_of-Stmt) q (more_of-Stmt b end_of-Stmt)) k act) m g = (g.0, tt)
+step_good P (Run Break k act) m g = break_good k act m g.0
+step_good P (Run Continue k act) m g = continue_good k act m g.0
+step_good P (Run (Return e) k act) m g = return_good P.structs m e k act g.0
+step_good P (Calling f args k) m g = call_good m (P.functions f) f args k g.0
 step_good P (Returning v k) m g = back_good m v k g.0
 
 abbrev all_perms : Perm → List (Option Perm) → Bool

@@ -1,18 +1,20 @@
 -- The flat list of statements stands for the statement.
-use Rattle.std.proofs.Common.{◌≡◌, ℕ, List, [], ◌∷◌, ◌++◌, refl, sym, subst, ap}
+use Rattle.std.proofs.Common.{ℕ, List, [], ◌∷◌, ◌++◌, refl}
 use mathlib.Core.Former.{arity, this}
 use Rattle.sqlite_items.specs.formers.items.Items.{the_former}
-use Rattle.floyd_clight.specs.declared.syntax.Stmt.{Stmt, Skip, Set, Seq', Return, Row_of-Stmt, end_of-Stmt, more_of-Stmt}
+use Rattle.floyd_clight.specs.declared.syntax.Stmt.{Stmt, Skip, Set, Assign, Call, Seq', If', Loop', Break, Continue, Return, Row_of-Stmt, end_of-Stmt, more_of-Stmt}
 use Rattle.floyd_clight.specs.Flat.{flat, flats}
 use Rattle.floyd_clight.specs.Machine.{Act, Run, Kseq}
 use Rattle.floyd_assert.specs.Heaplet.{Heaplet}
 use Rattle.floyd_runs.specs.World.{World}
-use Rattle.floyd_runs.specs.Safe.{Exit, Normal, Returned, Exits, Part, Safe, with_normal, SafeAll}
+use Rattle.floyd_runs.specs.Safe.{Exit, Normal, Broke, Continued, Returned, Exits, Part, Safe, with_normal, SafeAll}
 use Rattle.floyd_runs.proofs.Under.{resume}
-use Rattle.floyd_runs.proofs.Safety.{conseq, bind, done, returned, quiet, same_exits}
+use Rattle.floyd_runs.proofs.Safety.{conseq, bind, done, broke, continued, returned, quiet, same_exits}
 
 more : (W : World) (n : ℕ) (a b : List Stmt) (E : Exits) → ((act : Act) (h : Heaplet) → SafeAll W n (a ++ b) E act h → SafeAll W n a (with_normal (SafeAll W n b E) E) act h) → (x : Exit) (g : Heaplet) → with_normal (SafeAll W n (a ++ b) E) E x g → with_normal (SafeAll W n a (with_normal (SafeAll W n b E) E)) (with_normal (SafeAll W n b E) E) x g
 more W n a b E f (Normal act) g p = f act g p
+more W n a b E f (Broke act) g p = p
+more W n a b E f (Continued act) g p = p
 more W n a b E f (Returned v) g p = p
 
 -- what an appended list gives
@@ -39,6 +41,10 @@ seq_on : (W : World) (n : ℕ) (r : Stmt) (ss : List Stmt) (E : Exits)
     → (x : Exit) (g : Heaplet) → with_normal (SafeAll W n ss E) E x g → Safe W Part n (resume (Kseq r ∷ []) x) g E
 seq_on W n r ss E f (Normal act) g p =
     quiet W Part n (Run Skip (Kseq r ∷ []) act) (Run r [] act) g E refl (record { steps = λ m. refl; reads = λ m. refl; writes = λ m. refl }) (f act g p)
+seq_on W n r ss E f (Broke act) g p =
+    quiet W Part n (Run Break (Kseq r ∷ []) act) (Run Break [] act) g E refl (record { steps = λ m. refl; reads = λ m. refl; writes = λ m. refl }) (broke W n act g E p)
+seq_on W n r ss E f (Continued act) g p =
+    quiet W Part n (Run Continue (Kseq r ∷ []) act) (Run Continue [] act) g E refl (record { steps = λ m. refl; reads = λ m. refl; writes = λ m. refl }) (continued W n act g E p)
 seq_on W n r ss E f (Returned v) g p = returned W Part n v g E p
 
 seq_first : (W : World) (n : ℕ) (s r : Stmt) (ss : List Stmt) (E : Exits) (act : Act) (h : Heaplet)
@@ -60,7 +66,13 @@ mutual
   pub flat_safe : (W : World) (n : ℕ) (s : Stmt) → FlatSafe W n s
   flat_safe W n Skip E act h p = done W n act h E p
   flat_safe W n (Set x e) E act h p = one_safe W n (Set x e) E act h p
+  flat_safe W n (Assign q e) E act h p = one_safe W n (Assign q e) E act h p
+  flat_safe W n (Call to f es) E act h p = one_safe W n (Call to f es) E act h p
   flat_safe W n (Seq' shape all) E act h p = seq_safe W n shape all (all_flat_safe W n all) E act h p
+  flat_safe W n (If' e i a j b) E act h p = one_safe W n (If' e i a j b) E act h p
+  flat_safe W n (Loop' i a j b) E act h p = one_safe W n (Loop' i a j b) E act h p
+  flat_safe W n Break E act h p = one_safe W n Break E act h p
+  flat_safe W n Continue E act h p = one_safe W n Continue E act h p
   flat_safe W n (Return e) E act h p = one_safe W n (Return e) E act h p
 
   all_flat_safe : {c : _} → (W : World) (n : ℕ) (row : Row_of-Stmt c) → AllFlatSafe W n row

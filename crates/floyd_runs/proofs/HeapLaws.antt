@@ -1,5 +1,5 @@
 -- Laws of heaplets: sums, and what a greater heaplet keeps.
-use Rattle.std.proofs.Common.{◌≡◌, ℕ, List, [], ◌∷◌, Option, Some, None, refl, sym, ◌∙◌, subst, ap}
+use Rattle.std.proofs.Common.{◌≡◌, ℕ, List, [], ◌∷◌, Option, Some, None, refl, sym, ◌∙◌, subst}
 use Rattle.floyd_memory.specs.Memory.{Mem, Slot, slot}
 use Rattle.floyd_clight.specs.Machine.{Spot}
 use Rattle.floyd_assert.specs.Heaplet.{Cell, Heaplet, empty, JoinsAt, Joins, FitsAt, Fits, Within, Owned}

@@ -1,14 +1,13 @@
 -- The laws of safety: fewer steps, consequence, frame, bind, and steps that touch no memory.
-use Rattle.std.proofs.Common.{◌≡◌, ℕ, zero, suc, List, [], ◌∷◌, Option, Some, None, refl, sym, ◌∙◌, subst, ap}
+use Rattle.std.proofs.Common.{◌≡◌, ℕ, zero, suc, [], Option, Some, None, refl, sym, subst}
 use Rattle.floyd_int.specs.declared.kinds.Value.{Value}
 use Rattle.floyd_memory.specs.Memory.{Mem}
-use Rattle.floyd_clight.specs.declared.syntax.Stmt.{Stmt, Skip}
-use Rattle.floyd_clight.specs.Machine.{Act, Config, Run, Calling, Returning, Kont, Outcome, Next, Asks, Ended, Stuck, Spot, step, reads, writes}
-use Rattle.floyd_assert.specs.Heaplet.{Heaplet, Joins, Fits}
+use Rattle.floyd_clight.specs.declared.syntax.Stmt.{Skip, Break, Continue}
+use Rattle.floyd_clight.specs.Machine.{Act, Config, Run, Returning, Kont, Outcome, Next, Asks, Ended, Stuck, step, reads, writes}
+use Rattle.floyd_assert.specs.Heaplet.{Heaplet, Joins}
 use Rattle.floyd_runs.specs.World.{World}
-use Rattle.floyd_runs.specs.Runs.{IsLawful}
-use Rattle.floyd_runs.specs.Safe.{Exit, Normal, Returned, Exits, Level, Part, Whole, exit_of, Bounds, AllWithin, AllOwned, Lands, MayAsk, StepsTo, Ahead, Now, Safe, with_normal, SafeAll}
-use Rattle.floyd_runs.proofs.HeapLaws.{comm, assoc, assoc_back, part, all_within_more, all_owned_more}
+use Rattle.floyd_runs.specs.Safe.{Exit, Normal, Broke, Continued, Returned, Exits, Level, Part, exit_of, AllWithin, AllOwned, Lands, StepsTo, Now, Safe, with_normal}
+use Rattle.floyd_runs.proofs.HeapLaws.{assoc, assoc_back, all_within_more, all_owned_more}
 use Rattle.floyd_runs.proofs.Under.{Suits, SuitsPart, suits, under, over, resume, exit_under, no_exit_under, step_under, writes_under, bounds_under}
 
 abbrev Reach : Type 1
@@ -105,6 +104,14 @@ pub done : (W : World) (n : ℕ) (act : Act) (h : Heaplet) (E : Exits) → E (No
 done W zero act h E p = tt
 done W (suc n) act h E p = p
 
+pub broke : (W : World) (n : ℕ) (act : Act) (h : Heaplet) (E : Exits) → E (Broke act) h → Safe W Part n (Run Break [] act) h E
+broke W zero act h E p = tt
+broke W (suc n) act h E p = p
+
+pub continued : (W : World) (n : ℕ) (act : Act) (h : Heaplet) (E : Exits) → E (Continued act) h → Safe W Part n (Run Continue [] act) h E
+continued W zero act h E p = tt
+continued W (suc n) act h E p = p
+
 -- a call is over
 pub returned : (W : World) (l : Level) (n : ℕ) (v : Value) (h : Heaplet) (E : Exits) → E (Returned v) h → Safe W l n (Returning v []) h E
 returned W l zero v h E p = tt
@@ -131,4 +138,6 @@ quiet W l (suc n) c d h E e q s = quiet_step W l n c d h E e q (one_less W l n d
 -- with the normal exit as it was, exits are as they were
 pub same_exits : (E : Exits) (x : Exit) (h : Heaplet) → with_normal (λ act g. E (Normal act) g) E x h → E x h
 same_exits E (Normal act) h p = p
+same_exits E (Broke act) h p = p
+same_exits E (Continued act) h p = p
 same_exits E (Returned v) h p = p

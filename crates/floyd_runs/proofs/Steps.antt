@@ -1,36 +1,51 @@
 -- Safety of the statements of a function, from what they need.
-use Rattle.std.proofs.Common.{◌≡◌, ℕ, zero, suc, true, false, List, [], ◌∷◌, Option, Some, None, cond, refl, sym, ◌∙◌, subst, ap}
+use Rattle.std.proofs.Common.{◌≡◌, ℕ, zero, suc, true, [], Some, cond, refl, sym, ◌∙◌, subst, ap, ap₂}
+use Rattle.std.specs.Prelude.{option_and_then}
 use Rattle.floyd_int.specs.declared.kinds.Value.{Value}
 use Rattle.floyd_int.specs.declared.kinds.Value.TheVariants.{Vundef}
 use Rattle.floyd_memory.specs.Memory.{Mem}
+use Rattle.floyd_ctypes.specs.Structs.{Structs}
 use Rattle.floyd_ctypes.specs.Has.{has}
-use Rattle.floyd_clight.specs.declared.syntax.Expr.{Expr}
-use Rattle.floyd_clight.specs.declared.syntax.Expr.TheVariants.{Const, Temp}
-use Rattle.floyd_clight.specs.declared.syntax.Stmt.{Stmt, Skip, Set, Return}
-use Rattle.floyd_clight.specs.Evaluation.{Ident, Temps, eval_by}
-use Rattle.floyd_clight.specs.Machine.{Act, Config, Run, Calling, Returning, Kont, Outcome, Next, Stuck, call_kont, on_some, eval, set_in, free_all, finish, step, step_return, all_spots, writes}
-use Rattle.floyd_assert.specs.Heaplet.{Heaplet, Joins, Fits, seen}
+use Rattle.floyd_clight.specs.declared.syntax.Expr.{Expr, Const, Temp, Var, Deref', AddrOf', Unary', Binary', Cast', Field', SizeOf, end_of-Expr, more_of-Expr}
+use Rattle.floyd_clight.specs.declared.syntax.Stmt.{Skip, Set, Return}
+use Rattle.floyd_clight.specs.Evaluation.{Ident, Temps, Look, unary_value, binary_value, cast_value, eval_by}
+use Rattle.floyd_clight.specs.Types.{type_of}
+use Rattle.floyd_clight.specs.Machine.{Act, Run, Returning, Kont, Next, Stuck, call_kont, on_some, look, eval, set_in, free_all, finish, all_spots}
+use Rattle.floyd_assert.specs.Heaplet.{Heaplet, Fits, seen}
 use Rattle.floyd_runs.specs.World.{World}
-use Rattle.floyd_runs.specs.Safe.{Exit, Normal, Returned, Exits, Part, Whole, Safe, StepsTo, AllOwned}
+use Rattle.floyd_runs.specs.Safe.{Normal, Returned, Exits, Part, Whole, Safe, StepsTo, AllOwned}
 use Rattle.floyd_runs.proofs.HeapLaws.{part}
 use Rattle.floyd_runs.proofs.Safety.{done, returned}
 
+-- no expression looks at a place yet
+same_value : (S : Structs) (l j : Look) (temps : Temps) (e : Expr) → eval_by S l temps e ≡ eval_by S j temps e
+same_value S l j temps (Const v t) = refl
+same_value S l j temps (Temp x t) = refl
+same_value S l j temps (Var x t) = refl
+same_value S l j temps (Deref' p (more_of-Expr e end_of-Expr) t) = refl
+same_value S l j temps (AddrOf' p (more_of-Expr e end_of-Expr) t) = refl
+same_value S l j temps (Unary' op p (more_of-Expr e end_of-Expr) t) = ap (option_and_then (unary_value op (type_of e))) (same_value S l j temps e)
+same_value S l j temps (Binary' op p (more_of-Expr a end_of-Expr) q (more_of-Expr b end_of-Expr) t) =
+    ap₂ (λ x y. option_and_then (λ v. option_and_then (binary_value op (type_of a) (type_of b) v) y) x) (same_value S l j temps a) (same_value S l j temps b)
+same_value S l j temps (Cast' p (more_of-Expr e end_of-Expr) t) = ap (option_and_then (cast_value (type_of e) t)) (same_value S l j temps e)
+same_value S l j temps (Field' p (more_of-Expr e end_of-Expr) x t) = refl
+same_value S l j temps (SizeOf of t) = refl
+
 -- what an expression gives over a heaplet, it gives over each memory that it fits
-pub eval_fits : (h : Heaplet) (m : Mem) → Fits h m → (act : Act) (e : Expr) (v : Value) → eval_by (seen h) act.temps e ≡ Some v → eval m act e ≡ Some v
-eval_fits h m f act (Const w t) v e = e
-eval_fits h m f act (Temp x t) v e = e
+pub eval_fits : (S : Structs) (h : Heaplet) (m : Mem) → Fits h m → (act : Act) (e : Expr) (v : Value) → eval_by S (seen h) act.temps e ≡ Some v → eval S m act e ≡ Some v
+eval_fits S h m f act e v i = same_value S (look m) (seen h) act.temps e ∙ i
 
 -- the value of e is given to x
-pub record SetFrom (act : Act) (h : Heaplet) (x : Ident) (e : Expr) (B : Act → Heaplet → Type 0) : Type 0 where
+pub record SetFrom (S : Structs) (act : Act) (h : Heaplet) (x : Ident) (e : Expr) (B : Act → Heaplet → Type 0) : Type 0 where
   pub value : Value
-  pub evaluates : eval_by (seen h) act.temps e ≡ Some value
+  pub evaluates : eval_by S (seen h) act.temps e ≡ Some value
   pub after : B (set_in (Some x) value act) h
 
-pub set_safe : (W : World) (n : ℕ) (x : Ident) (e : Expr) (act : Act) (h : Heaplet) (E : Exits) → SetFrom act h x e (λ a g. E (Normal a) g) → Safe W Part n (Run (Set x e) [] act) h E
+pub set_safe : (W : World) (n : ℕ) (x : Ident) (e : Expr) (act : Act) (h : Heaplet) (E : Exits) → SetFrom W.program.structs act h x e (λ a g. E (Normal a) g) → Safe W Part n (Run (Set x e) [] act) h E
 set_safe W zero x e act h E q = tt
 set_safe W (suc n) x e act h E q = λ F k m j f b.
     record {
-      steps = subst (λ o. StepsTo W (λ d g. Safe W Part n d g E) h F m (on_some o (λ v. Next (Run Skip [] (set_in (Some x) v act)) m))) (sym (eval_fits h m (part j f) act e q.value q.evaluates))
+      steps = subst (λ o. StepsTo W (λ d g. Safe W Part n d g E) h F m (on_some o (λ v. Next (Run Skip [] (set_in (Some x) v act)) m))) (sym (eval_fits W.program.structs h m (part j f) act e q.value q.evaluates))
           (h, k, j, f, done W n (set_in (Some x) q.value act) h E q.after);
       reads = tt;
       writes = tt;
@@ -61,17 +76,17 @@ end_safe W (suc n) act h E q = λ F k m j f b.
     }
 
 -- the value of e is returned
-pub record ReturnFrom (act : Act) (h : Heaplet) (e : Expr) (E : Exits) : Type 0 where
+pub record ReturnFrom (S : Structs) (act : Act) (h : Heaplet) (e : Expr) (E : Exits) : Type 0 where
   pub value : Value
-  pub evaluates : eval_by (seen h) act.temps e ≡ Some value
+  pub evaluates : eval_by S (seen h) act.temps e ≡ Some value
   pub returns : ReturnOf act h E value
 
-pub return_safe : (W : World) (n : ℕ) (e : Expr) (act : Act) (h : Heaplet) (E : Exits) → ReturnFrom act h e E → Safe W Part n (Run (Return (Some e)) [] act) h E
+pub return_safe : (W : World) (n : ℕ) (e : Expr) (act : Act) (h : Heaplet) (E : Exits) → ReturnFrom W.program.structs act h e E → Safe W Part n (Run (Return (Some e)) [] act) h E
 return_safe W zero e act h E q = tt
 return_safe W (suc n) e act h E q = λ F k m j f b.
     record {
       steps = subst (StepsTo W (λ d g. Safe W Part n d g E) h F m)
-          (sym (ap (λ o. on_some o (λ v. finish act v [] m)) (eval_fits h m (part j f) act e q.value q.evaluates) ∙ finish_is act h E q.value [] m q.returns))
+          (sym (ap (λ o. on_some o (λ v. finish act v [] m)) (eval_fits W.program.structs h m (part j f) act e q.value q.evaluates) ∙ finish_is act h E q.value [] m q.returns))
           (h, k, j, f, returned W Part n q.value h E q.returns.after);
       reads = tt;
       writes = no_spots act h E q.value m q.returns;

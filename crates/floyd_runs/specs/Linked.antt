@@ -4,7 +4,8 @@ use Rattle.floyd_int.specs.declared.kinds.IntKind.TheVariants.{I32}
 use Rattle.floyd_int.specs.declared.kinds.Value.{Value}
 use Rattle.floyd_int.specs.declared.kinds.Value.TheVariants.{Vint}
 use Rattle.floyd_ctypes.specs.declared.ctype.CType.{CType, Int}
-use Rattle.floyd_clight.specs.declared.syntax.Expr.TheVariants.{Const}
+use Rattle.floyd_ctypes.specs.Structs.{Structs}
+use Rattle.floyd_clight.specs.declared.syntax.Expr.{Const}
 use Rattle.floyd_clight.specs.declared.syntax.Stmt.{Stmt, Seq, Return}
 use Rattle.floyd_clight.specs.Evaluation.{Ident}
 use Rattle.floyd_clight.specs.Machine.{Def, Own, Program}
@@ -20,13 +21,14 @@ pub record Function : Type 0 where
   pub def : Def
 
 pub record Linked : Type 0 where
+  pub structs : Structs
   pub functions : List Function
 
 abbrev pub function : Linked → Ident → Option Function
 function l f = find (λ (g : Function). bytes_eq f g.name) l.functions
 
 abbrev pub program : Linked → Program
-program l f = option_map (λ (g : Function). g.def) (function l f)
+program l = record { structs = l.structs; functions = λ f. option_map (λ (g : Function). g.def) (function l f) }
 
 abbrev pub PreOf : Option Function → Env → List Value → Heaplet → Type 0
 PreOf None x args h = ⊥
@@ -52,6 +54,7 @@ main_body statements = Seq (statements ++ Return (Some (Const (Vint 0) int)) ∷
 -- the program that has `int main(void)` with these statements alone
 abbrev pub linked : List Stmt → Funspec → Linked
 linked statements spec = record {
+  structs = [];
   functions =
       record { name = main; spec = spec; def = Own (record { result = int; params = []; body = main_body statements }) } ∷ [];
 }

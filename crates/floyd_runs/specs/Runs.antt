@@ -1,5 +1,5 @@
 -- Runs of a program, in which external functions give the answers of a list.
-use Rattle.std.specs.Prelude.{◌≡◌, ℕ, zero, suc, ◌≤◌, Bool, true, false, ◌⊎◌, List, [], ◌∷◌, map, length, Option, Some, None}
+use Rattle.std.specs.Prelude.{◌≡◌, ℕ, zero, suc, ◌≤◌, Bool, true, false, ◌⊎◌, List, [], ◌∷◌, map, Option, Some, None}
 use Rattle.floyd_int.specs.declared.kinds.Value.{Value}
 use Rattle.floyd_memory.specs.Memory.{Mem, Block, Slot, Kind, Global, Local, Ext as ExtKind, Function, Perm, nth, next}
 use Rattle.floyd_ctypes.specs.Has.{has}
@@ -46,7 +46,7 @@ pub record Keeps (m n : Mem) : Type 0 where
 pub record IsLawful (W : World) (f : Ident) (args : List Value) (m : Mem) (v : Value) (n : Mem) : Type 0 where
   pub meets : Meets W f args m v n
   pub keeps : Keeps m n
-  pub fits : has_result (W.program f) v ≡ true
+  pub fits : has_result (W.program.functions f) v ≡ true
 
 -- an answer of an external function
 pub record Answer : Type 0 where

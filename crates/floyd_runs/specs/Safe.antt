@@ -1,10 +1,10 @@
 -- Safety for n steps: of a configuration with its own frames above an unknown rest, and of a heaplet beside any other.
 use Rattle.std.specs.Prelude.{◌≡◌, ◌≢◌, ℕ, zero, suc, ◌<◌, true, List, [], ◌∷◌, ◌++◌, Option, Some, None}
 use Rattle.floyd_int.specs.declared.kinds.Value.{Value}
-use Rattle.floyd_memory.specs.Memory.{Mem, Block, Kind, Local, Freeable, all_include, nth}
-use Rattle.floyd_clight.specs.declared.syntax.Stmt.{Stmt, Skip, Set, Seq', Return}
+use Rattle.floyd_memory.specs.Memory.{Mem, Block, Local, Freeable, all_include, nth}
+use Rattle.floyd_clight.specs.declared.syntax.Stmt.{Stmt, Skip, Set, Assign, Call, Seq', If', Loop', Break, Continue, Return}
 use Rattle.floyd_clight.specs.Evaluation.{Ident}
-use Rattle.floyd_clight.specs.Machine.{Act, LocalBlock, Config, Run, Calling, Returning, Frame, Kseq, Kcall, Kont, Outcome, Next, Asks, Ended, Stuck, Spot, step, reads, writes}
+use Rattle.floyd_clight.specs.Machine.{Act, LocalBlock, Config, Run, Calling, Returning, Kseq, Kloop1, Kloop2, Kcall, Kont, Outcome, Next, Asks, Ended, Stuck, Spot, step, reads, writes}
 use Rattle.floyd_assert.specs.Heaplet.{Heaplet, Joins, Fits, Within, Owned}
 use Rattle.floyd_assert.specs.Data.{Env}
 use Rattle.floyd_runs.specs.World.{World}
@@ -12,7 +12,7 @@ use Rattle.floyd_runs.specs.Runs.{IsLawful, has_result}
 
 -- the ways out of a part of a function, or of a whole call
 pub data Exit : Type 0 where
-  Normal : (act : Act) → Exit
+  Normal Broke Continued : (act : Act) → Exit
   Returned : (v : Value) → Exit
 
 -- what must hold of a way out and the heaplet there
@@ -25,7 +25,13 @@ pub data Level : Type 0 where
 abbrev pub local_exit : Level → Stmt → Act → Option Exit
 local_exit Part Skip act = Some (Normal act)
 local_exit Part (Set x e) act = None
+local_exit Part (Assign p e) act = None
+local_exit Part (Call to f es) act = None
 local_exit Part (Seq' shape all) act = None
+local_exit Part (If' e p a q b) act = None
+local_exit Part (Loop' p a q b) act = None
+local_exit Part Break act = Some (Broke act)
+local_exit Part Continue act = Some (Continued act)
 local_exit Part (Return e) act = None
 local_exit Whole s act = None
 
@@ -56,6 +62,8 @@ AllIn (b ∷ bs) m = IsLocal m b.block × IsApart b.block bs × AllIn bs m
 abbrev pub kont_blocks : Kont → List LocalBlock
 kont_blocks [] = []
 kont_blocks (Kseq s ∷ k) = kont_blocks k
+kont_blocks (Kloop1 a b ∷ k) = kont_blocks k
+kont_blocks (Kloop2 a b ∷ k) = kont_blocks k
 kont_blocks (Kcall to act ∷ k) = act.blocks ++ kont_blocks k
 
 abbrev pub config_blocks : Config → List LocalBlock
@@ -106,7 +114,9 @@ Safe W l (suc n) c h E = Now W (λ d g. Safe W l n d g E) c h E (exit_of l c)
 -- the one way out of a call
 abbrev pub CallExits : World → Ident → Env → Exits
 CallExits W f x (Normal act) h = ⊥
-CallExits W f x (Returned v) h = (has_result (W.program f) v ≡ true) × W.post f x v h
+CallExits W f x (Broke act) h = ⊥
+CallExits W f x (Continued act) h = ⊥
+CallExits W f x (Returned v) h = (has_result (W.program.functions f) v ≡ true) × W.post f x v h
 
 -- calls keep their specifications for n steps
 abbrev pub KeepsFor : World → ℕ → Type 0
@@ -118,6 +128,8 @@ KeepsBelow W n = (j : ℕ) → j < n → KeepsFor W j
 -- the exits with another meaning of the normal one
 abbrev pub with_normal : (Act → Heaplet → Type 0) → Exits → Exits
 with_normal A E (Normal act) h = A act h
+with_normal A E (Broke act) h = E (Broke act) h
+with_normal A E (Continued act) h = E (Continued act) h
 with_normal A E (Returned v) h = E (Returned v) h
 
 -- the statements, one after the other, are safe for n steps each

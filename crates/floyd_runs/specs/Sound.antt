@@ -1,12 +1,11 @@
 -- What it means that a program is sound. No rule of a proof is mentioned.
-use Rattle.std.specs.Prelude.{◌≡◌, ◌≢◌, ℕ, List, [], ◌∷◌, length, Option, Some, AllPairs}
-use Rattle.floyd_memory.specs.Memory.{Mem, Block, Slot, Kind, Local, Function, Nonempty, nth}
+use Rattle.std.specs.Prelude.{◌≡◌, ◌≢◌, ℕ, List, [], ◌∷◌, length, Some, AllPairs}
+use Rattle.floyd_memory.specs.Memory.{Mem, Block, Slot, Local, Function, Nonempty, nth}
 use Rattle.floyd_clight.specs.Machine.{Calling}
 use Rattle.floyd_assert.specs.Heaplet.{Heaplet, Fits}
 use Rattle.floyd_assert.specs.Data.{Env}
-use Rattle.floyd_runs.specs.World.{World}
 use Rattle.floyd_runs.specs.Linked.{Linked, world, main}
-use Rattle.floyd_runs.specs.Runs.{Answer, State, AllLawful, NoneStuck, CallsMeet, run}
+use Rattle.floyd_runs.specs.Runs.{Answer, AllLawful, NoneStuck, CallsMeet, run}
 
 -- the block of a function: one byte, where nothing may be done
 pub record IsFunctionBlock (m : Mem) (block : ℕ) : Type 0 where

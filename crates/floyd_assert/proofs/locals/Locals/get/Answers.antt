@@ -1,4 +1,4 @@
-use Rattle.std.proofs.Common.{◌≡◌, sym, ◌∙◌, ap}
+use Rattle.std.proofs.Common.{◌∙◌, ap}
 use Rattle.floyd_assert.proofs.LocalLaws.{get_is}
 use Rattle.floyd_assert.specs.LocalTerms.{term_of}
 use Rattle.floyd_assert.proofs.locals.Locals.get.Goals as goal

@@ -1,4 +1,4 @@
-use Rattle.std.proofs.Common.{◌≡◌, sym, ◌∙◌, ap}
+use Rattle.std.proofs.Common.{◌∙◌, ap}
 use Rattle.floyd_assert.proofs.LocalLaws.{set_is}
 use Rattle.floyd_assert.specs.LocalTerms.{with_local}
 use Rattle.floyd_assert.proofs.locals.Locals.set.Goals as goal

@@ -1,4 +1,4 @@
-use Rattle.std.proofs.Common.{sym, ◌∙◌, ap}
+use Rattle.std.proofs.Common.{sym, ◌∙◌}
 use mathlib.Core.Path.{ap₂}
 use Rattle.floyd_assert.specs.Terms.{same_term}
 use Rattle.floyd_assert.proofs.TermLaws.{same_vint, same_vint_number}

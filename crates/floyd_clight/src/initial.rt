@@ -1,0 +1,23 @@
+use floyd_int::IntKind;
+use floyd_text::Name;
+use sqlite_items::Items;
+
+/// The contents of a variable, or of a part of it, at the start.
+#[derive(Drop)]
+pub enum Initial {
+    /// Nothing is written: zeros, and pointers that are null.
+    Absent,
+    /// The integer of the kind with these bits.
+    Int(IntKind, u64),
+    Null,
+    /// The address of a variable or a function.
+    Address(Name),
+    /// The address of an element of an array, so many bytes behind its start.
+    Element(Name, u128),
+    /// Of an array its elements, of a struct its fields in order. The last ones may be left out, and then nothing is
+    /// written of them.
+    Parts(InitialList),
+}
+
+/// Contents in order.
+pub type InitialList = Items<Initial>;
