@@ -1,37 +1,62 @@
 -- What the verdict on a module is, by what its files read as and by the play of its proof.
-use Rattle.std.proofs.Common.{◌≡◌, ℕ, List, [], ◌∷◌, length, get_or, Option, Some, Result, Ok, Err, refl, sym, ap, subst, arith, ◌≤◌}
+use Rattle.std.proofs.Common.{◌≡◌, ℕ, List, [], ◌∷◌, length, get_or, Result, Ok, Err, refl, sym, ap, subst, arith}
 use Rattle.floyd_text.specs.declared.refusal.Refusal.{Refusal}
 use Rattle.floyd_text.specs.declared.refusal.Halt.{Halt}
 use Rattle.floyd_text.specs.declared.refusal.Halt.TheVariants.{Refused, Memory}
 use Rattle.floyd_text.specs.Gives.{Stops}
+use Rattle.floyd_lex.specs.declared.kinds.FileKind.TheVariants as kind
 use Rattle.floyd_project.specs.declared.module.Module.{Module}
 use Rattle.floyd_first.specs.declared.form.Main.{Main}
 use Rattle.floyd_first.specs.declared.form.Script.{Script}
-use Rattle.floyd_text.specs.declared.place.Place.{Place}
-use Rattle.floyd_first.specs.declared.form.Entry.{Entry}
-use Rattle.floyd_first.specs.Spaced.{Token}
-use Rattle.floyd_first.specs.Forms.{IsMain, IsSpec, IsScript, ReadsAs, AreCommands}
+use Rattle.floyd_first.specs.Forms.{IsMain, IsSpec, IsScript}
 use Rattle.floyd_goal.specs.Derivation.{main_start, played}
+use Rattle.floyd_check.specs.FileReading.{ReadsFile}
 use Rattle.floyd_check.specs.Loading.{modules_of}
 use Rattle.floyd_check.specs.declared.check.Accepted.{Accepted}
-use Rattle.floyd_check.specs.Checked.{program_of, Checks, ChecksModule, ChecksThree}
-use Rattle.floyd_check.specs.Verdict.{Program, Judges, JudgesModules, JudgesFiles, AreFiles, HasAllFiles, statements_of, spec_of, proof_of, then_program}
+use Rattle.floyd_check.specs.Checked.{Answers, program_of, Checks, ChecksModule, ChecksThree}
+use Rattle.floyd_check.specs.Verdict.{Program, Judges, JudgesModules, JudgesFiles, AreFiles, HasAllFiles, KeepLimits, statements_of, spec_of, proof_of, judged, then_program}
 
--- a proof that plays through
-pub accepts : (source spec script : List ℕ) (m : Main) (n : ℕ) (s : Script) → ReadsAs (IsMain source) (Some m) → ReadsAs (IsSpec spec) (Some n)
-    → ReadsAs (IsScript 3 script) (Some s) → played (proof_of s) (main_start (statements_of m) (spec_of n)) ≡ Ok tt
-    → Judges source spec script (Ok (record { main = m; value = n }))
-accepts source spec script m n s a b c e = record {
-  main = Some m;
-  value = Some n;
-  proof = Some s;
-  reads_main = a;
-  reads_spec = b;
-  reads_script = c;
-  verdict = sym (ap (then_program (record { main = m; value = n })) e);
-}
+module _ (source spec script : List ℕ) where
+  -- the source is refused
+  pub source_stops : (halt : Halt) → Answers (ReadsFile IsMain kind.Source 1 source) (Err halt) → ChecksModule source spec script (Err halt)
+  source_stops (Refused r) h = record { first = Err r; is_first = h; next = refl }
+  source_stops Memory h = tt
 
-pub all_files : (all : List (List ℕ)) (project : List ℕ) (files : List (List ℕ)) → AreFiles all → all ≡ project ∷ files → HasAllFiles (modules_of project) files
+  module _ (m : Main) (reads_main : ReadsFile IsMain kind.Source 1 source (Ok m)) where
+    -- the specification is
+    pub spec_stops : (halt : Halt) → Answers (ReadsFile IsSpec kind.Spec 2 spec) (Err halt) → ChecksModule source spec script (Err halt)
+    spec_stops (Refused r) h = record { first = Ok m; is_first = reads_main; next = record { first = Err r; is_first = h; next = refl } }
+    spec_stops Memory h = tt
+
+    module _ (n : ℕ) (reads_spec : ReadsFile IsSpec kind.Spec 2 spec (Ok n)) where
+      -- the script is
+      pub script_stops : (halt : Halt) → Answers (ReadsFile IsScript kind.Script 3 script) (Err halt) → ChecksModule source spec script (Err halt)
+      script_stops (Refused r) h = record {
+        first = Ok m;
+        is_first = reads_main;
+        next = record { first = Ok n; is_first = reads_spec; next = record { first = Err r; is_first = h; next = refl } };
+      }
+      script_stops Memory h = tt
+
+      module _ (s : Script) (reads_script : ReadsFile IsScript kind.Script 3 script (Ok s)) where
+        -- all three are read
+        judges_read : (v : Result Program Refusal) → v ≡ judged m n s → Judges source spec script v
+        judges_read v e = record {
+          first = Ok m;
+          is_first = reads_main;
+          next = record { first = Ok n; is_first = reads_spec; next = record { first = Ok s; is_first = reads_script; next = e } };
+        }
+
+        -- the proof is refused
+        pub proof_stops : (halt : Halt) → Stops halt (played (proof_of s) (main_start (statements_of m) (spec_of n))) → ChecksModule source spec script (Err halt)
+        proof_stops (Refused r) h = judges_read (Err r) (sym (ap (then_program (record { main = m; value = n })) h))
+        proof_stops Memory h = tt
+
+        -- the proof plays through
+        pub accepts : played (proof_of s) (main_start (statements_of m) (spec_of n)) ≡ Ok tt → Judges source spec script (Ok (record { main = m; value = n }))
+        accepts e = judges_read (Ok (record { main = m; value = n })) (sym (ap (then_program (record { main = m; value = n })) e))
+
+pub all_files : (all : List (List ℕ)) (project : List ℕ) (files : List (List ℕ)) → AreFiles all → all ≡ project ∷ files → HasAllFiles (modules_of project) files × KeepLimits project files
 all_files all project files h e = subst AreFiles e h
 
 pub three_in_order : (files : List (List ℕ)) (a b c : List ℕ) (r : Result Accepted Halt) → length files ≡ 3 → a ≡ get_or files 0 a → b ≡ get_or files 1 b → c ≡ get_or files 2 c
@@ -62,14 +87,3 @@ checks_files project (x ∷ y ∷ z ∷ []) modules (Err Memory) e h = tt
 pub checks_project : (project : List ℕ) (files : List (List ℕ)) (halt : Halt) → Stops halt (modules_of project) → Checks (project ∷ files) (Err halt)
 checks_project project files (Refused r) e = subst (λ (m : Result (List Module) Refusal). JudgesModules m files (Err r)) (sym e) refl
 checks_project project files Memory e = tt
-
--- there are no more commands than tokens
-commands_few : (file : ℕ) (bytes : List ℕ) (ts : List Token) (es : List Entry) (end : Place) → AreCommands file bytes ts es end → length es ≤ length ts
-commands_few file bytes [] es end h = absurd h
-commands_few file bytes (q ∷ ts) [] end h = omega arith
-commands_few file bytes (c ∷ []) (e ∷ es) end h = absurd h
-commands_few file bytes (c ∷ s ∷ ts) (e ∷ es) end h = omega (arith, commands_few file bytes ts es end h.3)
-
--- a script that was read has no more commands than a file has tokens
-pub script_few : (bytes : List ℕ) (s : Script) → ReadsAs (IsScript 3 bytes) (Some s) → length s.commands ≤ 1000000
-script_few bytes s h = omega (arith, h.4, commands_few 3 bytes h.2 s.commands s.end h.7)

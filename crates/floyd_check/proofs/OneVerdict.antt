@@ -1,34 +1,50 @@
 -- A project has one verdict at most.
-use Rattle.std.proofs.Common.{◌≡◌, ℕ, List, [], ◌∷◌, Option, Some, None, Result, Ok, Err, refl, sym, ap, subst, ◌∙◌}
+use Rattle.std.proofs.Common.{◌≡◌, ℕ, List, [], ◌∷◌, Result, Ok, Err, sym, ap, subst, ◌∙◌}
 use Rattle.floyd_text.specs.declared.refusal.Refusal.{Refusal}
 use Rattle.floyd_text.specs.Outside.{Files}
+use Rattle.floyd_lex.specs.declared.kinds.FileKind.{FileKind}
+use Rattle.floyd_lex.specs.declared.kinds.FileKind.TheVariants as kind
+use Rattle.floyd_lex.specs.Cuts.{IsCut}
+use Rattle.floyd_lex.specs.Token.{Token, tokens_in}
+use Rattle.floyd_lex.proofs.OneCut.{same_answer}
 use Rattle.floyd_project.specs.declared.module.Module.{Module}
-use Rattle.floyd_first.specs.declared.form.Main.{Main}
-use Rattle.floyd_first.specs.declared.form.Script.{Script}
-use Rattle.floyd_first.specs.Forms.{IsMain, IsSpec, IsScript, ReadsAs}
+use Rattle.floyd_first.specs.Forms.{IsMain, IsSpec, IsScript}
 use Rattle.floyd_first.proofs.MainForm.{same_main}
 use Rattle.floyd_first.proofs.SpecForm.{same_spec}
 use Rattle.floyd_first.proofs.ScriptForm.{same_script}
+use Rattle.floyd_check.specs.FileReading.{Follows, Then, ReadsTokens, ReadsFile}
 use Rattle.floyd_check.specs.Loading.{modules_of, loaded}
-use Rattle.floyd_check.specs.Verdict.{Program, built, Judges, JudgesModules, JudgesFiles, JudgesLoaded, IsVerdict}
+use Rattle.floyd_check.specs.Verdict.{Program, judged, Judges, JudgesModules, JudgesFiles, JudgesLoaded, IsVerdict}
 
--- bytes read as one thing at most
-one_reading : {X : Type 0} (R : X → Type 0) → ((x y : X) → R x → R y → x ≡ y) → (a b : Option X) → ReadsAs R a → ReadsAs R b → a ≡ b
-one_reading R one (Some x) (Some y) h k = ap (λ z. Some z) (one x y h k)
-one_reading R one (Some x) None h k = absurd (k x h)
-one_reading R one None (Some y) h k = absurd (h y k)
-one_reading R one None None h k = refl
+-- there is one at most
+abbrev IsOne : {X : Type 0} → (X → Type 0) → Type 0
+IsOne {X} P = (a b : X) → P a → P b → a ≡ b
 
-one_module : (source spec script : List ℕ) (v w : Result Program Refusal) → Judges source spec script v → Judges source spec script w → v ≡ w
-one_module source spec script v w a b =
-    let main : a.main ≡ b.main = one_reading (IsMain source) (same_main source) a.main b.main a.reads_main b.reads_main in
-    let value : a.value ≡ b.value = one_reading (IsSpec spec) (same_spec spec) a.value b.value a.reads_spec b.reads_spec in
-    let proof : a.proof ≡ b.proof = one_reading (IsScript 3 script) (same_script 3 script) a.proof b.proof a.reads_script b.reads_script in
-    a.verdict
-    ∙ ap (λ (m : Option Main). built m a.value a.proof) main
-    ∙ ap (λ (n : Option ℕ). built b.main n a.proof) value
-    ∙ ap (λ (s : Option Script). built b.main b.value s) proof
-    ∙ sym b.verdict
+-- where there is one first at most, and one next
+one_then : {X Y : Type 0} (First : Result X Refusal → Type 0) (Next : X → Result Y Refusal → Type 0) → IsOne First → ((x : X) → IsOne (Next x)) → IsOne (Then First Next)
+one_then {X} {Y} First Next one more v w a b = by_first b.first (subst (λ (r : Result X Refusal). Follows Next r v) (one a.first b.first a.is_first b.is_first) a.next) b.next
+  where
+    by_first : (r : Result X Refusal) → Follows Next r v → Follows Next r w → v ≡ w
+    by_first (Ok x) h k = more x v w h k
+    by_first (Err r) h k = h ∙ sym k
+
+one_reading : {X : Type 0} (Form : List Token → X → Type 0) (file : ℕ) (ts : List Token) → IsOne (Form ts) → IsOne (ReadsTokens Form file ts)
+one_reading Form file ts one (Ok x) (Ok y) h k = ap Ok (one x y h k)
+one_reading Form file ts one (Ok x) (Err r) h k = absurd (k.0 x h)
+one_reading Form file ts one (Err r) (Ok y) h k = absurd (h.0 y k)
+one_reading Form file ts one (Err r) (Err s) h k = ap Err (h.1 ∙ sym k.1)
+
+one_file : {X : Type 0} (Form : List Token → X → Type 0) (kind : FileKind) (file : ℕ) (bytes : List ℕ) → ((ts : List Token) → IsOne (Form ts)) → IsOne (ReadsFile Form kind file bytes)
+one_file Form kind file bytes one =
+    one_then (IsCut kind file bytes) (λ list. ReadsTokens Form file (tokens_in bytes list)) (same_answer kind file bytes)
+    (λ list. one_reading Form file (tokens_in bytes list) (one (tokens_in bytes list)))
+
+one_module : (source spec script : List ℕ) → IsOne (Judges source spec script)
+one_module source spec script =
+    one_then (ReadsFile IsMain kind.Source 1 source) _ (one_file IsMain kind.Source 1 source same_main)
+    (λ m. one_then (ReadsFile IsSpec kind.Spec 2 spec) _ (one_file IsSpec kind.Spec 2 spec same_spec)
+    (λ n. one_then (ReadsFile IsScript kind.Script 3 script) (λ s v. v ≡ judged m n s) (one_file IsScript kind.Script 3 script same_script)
+    (λ s v w h k. h ∙ sym k)))
 
 one_of_modules : (modules : Result (List Module) Refusal) (files : List (List ℕ)) (v w : Result Program Refusal) → JudgesModules modules files v → JudgesModules modules files w → v ≡ w
 one_of_modules (Err r) files v w a b = a ∙ sym b

@@ -1,10 +1,17 @@
 -- What the check of a project answers.
 use Rattle.std.specs.Prelude.{◌≡◌, ℕ, List, [], ◌∷◌, Result, Ok, Err, codes}
 use Rattle.floyd_text.specs.declared.refusal.Halt.{Halt}
+use Rattle.floyd_text.specs.declared.refusal.Refusal.{Refusal}
 use Rattle.floyd_text.specs.declared.refusal.Halt.TheVariants.{Refused, Memory}
 use Rattle.floyd_runs.specs.Sound.{Sound}
 use Rattle.floyd_check.specs.declared.check.Accepted.{Accepted}
 use Rattle.floyd_check.specs.Verdict.{Program, linked_of, Judges, JudgesFiles}
+
+-- what a call answers is so, unless memory ran out
+abbrev pub Answers : {X : Type 0} → (Result X Refusal → Type 0) → Result X Halt → Type 0
+Answers P (Ok x) = P (Ok x)
+Answers P (Err (Refused r)) = P (Err r)
+Answers P (Err Memory) = Unit {0}
 
 -- the program that was accepted
 abbrev pub program_of : Accepted → Program

@@ -1,15 +1,16 @@
 -- The verdict on a project: it is accepted, or refused. The verdict looks at texts and derivations, and at no run.
-use Rattle.std.specs.Prelude.{◌≡◌, ℕ, ◌*◌, List, [], ◌∷◌, ◌++◌, map, length, codes, Option, Some, None, Result, Ok, Err}
+use Rattle.std.specs.Prelude.{◌≡◌, ℕ, ◌*◌, ◌≤◌, List, [], ◌∷◌, ◌++◌, map, length, codes, Some, Result, Ok, Err, All}
+use Rattle.std.specs.List.{sum_by}
 use Rattle.floyd_int.specs.declared.kinds.Value.TheVariants.{Vint as VintValue}
 use Rattle.floyd_text.specs.declared.refusal.Refusal.{Refusal}
 use Rattle.floyd_text.specs.Outside.{Files}
-use Rattle.floyd_text.specs.Place.{first_place}
+use Rattle.floyd_lex.specs.declared.kinds.FileKind.TheVariants as kind
 use Rattle.floyd_project.specs.declared.module.Module.{Module}
-use Rattle.floyd_clight.specs.declared.syntax.Expr.TheVariants.{Const, Temp}
+use Rattle.floyd_clight.specs.declared.syntax.Expr.{Const, Temp}
 use Rattle.floyd_clight.specs.declared.syntax.Stmt.{Stmt, Set as SetStmt, Return as ReturnStmt}
 use Rattle.floyd_assert.specs.declared.funspec.Funspec.{Funspec}
 use Rattle.floyd_assert.specs.declared.funspec.Precondition.TheVariants.{Main as MainPre}
-use Rattle.floyd_assert.specs.declared.term.Term.{Term, Number, Vint}
+use Rattle.floyd_assert.specs.declared.term.Term.{Number, Vint}
 use Rattle.floyd_runs.specs.Linked.{Linked, linked, int}
 use Rattle.floyd_goal.specs.declared.script.Command.{Command}
 use Rattle.floyd_goal.specs.declared.script.Proof.{Proof}
@@ -18,8 +19,9 @@ use Rattle.floyd_first.specs.declared.form.Set.{Set}
 use Rattle.floyd_first.specs.declared.form.Main.{Main}
 use Rattle.floyd_first.specs.declared.form.Entry.{Entry}
 use Rattle.floyd_first.specs.declared.form.Script.{Script}
-use Rattle.floyd_first.specs.Forms.{IsMain, IsSpec, IsScript, ReadsAs}
-use Rattle.floyd_check.specs.Loading.{refused, on_ok, modules_of, loaded}
+use Rattle.floyd_first.specs.Forms.{IsMain, IsSpec, IsScript}
+use Rattle.floyd_check.specs.FileReading.{Then, ReadsFile}
+use Rattle.floyd_check.specs.Loading.{max_file, max_files, modules_of, loaded}
 
 -- what the files of an accepted project say: what main does, and the number that it returns
 pub record Program : Type 0 where
@@ -49,10 +51,6 @@ command_of e = record { place = e.place; rule = e.rule }
 abbrev pub proof_of : Script → Proof
 proof_of s = record { name = codes "main"; commands = map command_of s.commands; end = s.end }
 
--- a file of a form that is not built
-abbrev pub not_built : ℕ → Refusal
-not_built file = refused 199 (first_place file)
-
 abbrev pub then_program : Program → Result (Unit {0}) Refusal → Result Program Refusal
 then_program p (Ok u) = Ok p
 then_program p (Err r) = Err r
@@ -62,22 +60,13 @@ abbrev pub judged : Main → ℕ → Script → Result Program Refusal
 judged m n s =
     then_program (record { main = m; value = n }) (played (proof_of s) (main_start (statements_of m) (spec_of n)))
 
--- what the source, the specification and the script read as is built, in this order, and the proof is a derivation
-abbrev pub built : Option Main → Option ℕ → Option Script → Result Program Refusal
-built None n s = Err (not_built 1)
-built (Some m) None s = Err (not_built 2)
-built (Some m) (Some n) None = Err (not_built 3)
-built (Some m) (Some n) (Some s) = judged m n s
-
--- the verdict on the three files of a module
-pub record Judges (source spec script : List ℕ) (v : Result Program Refusal) : Type 0 where
-  pub main : Option Main
-  pub value : Option ℕ
-  pub proof : Option Script
-  pub reads_main : ReadsAs (IsMain source) main
-  pub reads_spec : ReadsAs (IsSpec spec) value
-  pub reads_script : ReadsAs (IsScript 3 script) proof
-  pub verdict : v ≡ built main value proof
+-- The verdict on the three files of a module: first the source is read, then the specification, then the script, and
+-- then the proof is played. The first refusal is the verdict.
+abbrev pub Judges : List ℕ → List ℕ → List ℕ → Result Program Refusal → Type 0
+Judges source spec script =
+    Then (ReadsFile IsMain kind.Source 1 source) (λ m.
+    Then (ReadsFile IsSpec kind.Spec 2 spec) (λ n.
+    Then (ReadsFile IsScript kind.Script 3 script) (λ s v. v ≡ judged m n s)))
 
 -- the verdict on the files of the modules
 abbrev pub JudgesModules : Result (List Module) Refusal → List (List ℕ) → Result Program Refusal → Type 0
@@ -107,7 +96,13 @@ abbrev pub HasAllFiles : Result (List Module) Refusal → List (List ℕ) → Ty
 HasAllFiles (Err r) files = Unit {0}
 HasAllFiles (Ok modules) files = length files ≡ 3 * length modules
 
--- The bytes are those of a project, and then of its files in order.
+-- no file has more bytes than a file may have, and those of the project together have no more than they may
+pub record KeepLimits (project : List ℕ) (files : List (List ℕ)) : Type 0 where
+  pub project_small : length project ≤ max_file
+  pub files_small : All (λ bytes. length bytes ≤ max_file) files
+  pub all_small : sum_by length files ≤ max_files
+
+-- The bytes are those of a project, and then of its files in order, within the limits.
 abbrev pub AreFiles : List (List ℕ) → Type 0
 AreFiles [] = ⊥
-AreFiles (project ∷ files) = HasAllFiles (modules_of project) files
+AreFiles (project ∷ files) = HasAllFiles (modules_of project) files × KeepLimits project files

@@ -1,17 +1,19 @@
-ghost use Rattle.std.specs.Prelude.{◌≡◌, ◌≤◌, length};
+ghost use Rattle.std.specs.Prelude.{◌≡◌, ◌≤◌, length, All};
 ghost use Rattle.floyd_text.specs.Gives.{Gives};
 ghost use Rattle.floyd_check.specs.Checked.{Checks, ChecksModule, ChecksThree};
+ghost use Rattle.floyd_check.specs.Loading.{max_file};
 ghost use Rattle.floyd_check.specs.Verdict as spec;
 ghost use Rattle.floyd_check.specs.Verdict.{AreFiles};
 ghost use Rattle.floyd_goal.specs.Derivation.{main_start, played};
 
 use crate::files::FileList;
-use crate::modules::{first_place, modules_of, refused};
+use crate::modules::modules_of;
 use crate::program::{main_name, proof_of, spec_of, statements_of};
-use floyd_first::{Main, Script, read_main, read_script, read_spec};
+use crate::reading::{script_in, source_in, spec_in};
+use floyd_first::{Main, Script};
 use floyd_goal::start_goal;
 use floyd_play::play;
-use floyd_text::{Bytes, Halt, Name, Refusal};
+use floyd_text::{Bytes, Halt, Name};
 use sqlite_items::Items;
 use std::alloc::Global;
 
@@ -28,13 +30,6 @@ pub struct Accepted {
     pub value: u32,
 }
 
-/// The refusal of a file of a form that is not built.
-fn not_built(file: u32) -> Refusal
-    ensures { result ≡ spec.not_built file }
-{
-    refused(199, first_place(file))
-}
-
 /// Plays the proof of main on the start that its source and its specification give.
 fn judge(alloc: Global, main: &Main, value: u32, script: &Script) -> Result<(), Halt>
     requires { length script.now.commands ≤ 1000000 }
@@ -45,7 +40,7 @@ fn judge(alloc: Global, main: &Main, value: u32, script: &Script) -> Result<(), 
     play(alloc, &proof, start)
 }
 
-/// Judges the three files of the one module of a project.
+/// Judges the three files of the one module of a project: its source, its specification and its script.
 fn check_module(
     alloc: Global,
     project: &Name,
@@ -53,32 +48,29 @@ fn check_module(
     spec: &[u8],
     script: &[u8],
 ) -> Result<Accepted, Halt>
+    requires source { length source.now ≤ max_file }
+    requires spec { length spec.now ≤ max_file }
+    requires script { length script.now ≤ max_file }
     ensures { ChecksModule source.now spec.now script.now result }
 {
-    let main = read_main(alloc, source)?;
-    let value = read_spec(alloc, spec)?;
-    let proof = read_script(alloc, 3, script)?;
-    match (main, value, proof) {
-        (None, _, _) => Err(Halt::Refused(not_built(1))),
-        (Some(_), None, _) => Err(Halt::Refused(not_built(2))),
-        (Some(_), Some(_), None) => Err(Halt::Refused(not_built(3))),
-        (Some(main), Some(value), Some(proof)) => {
-            judge(alloc, &main, value, &proof)?;
-            let mut proved = NameList::new(alloc);
-            proved.push(main_name(alloc)?)?;
-            Ok(Accepted {
-                project: project.share()?,
-                proved,
-                main,
-                value,
-            })
-        }
-    }
+    let main = source_in(alloc, source)?;
+    let value = spec_in(alloc, spec)?;
+    let proof = script_in(alloc, script)?;
+    judge(alloc, &main, value, &proof)?;
+    let mut proved = NameList::new(alloc);
+    proved.push(main_name(alloc)?)?;
+    Ok(Accepted {
+        project: project.share()?,
+        proved,
+        main,
+        value,
+    })
 }
 
-/// Judges the files of the one module of a project: its source, its specification and its script.
+/// Judges the files of the one module of a project.
 fn check_files(alloc: Global, project: &Name, files: &[Bytes]) -> Result<Accepted, Halt>
-    requires { length files.now ≡ 3 }
+    requires len { length files.now ≡ 3 }
+    requires small { All (λ bytes. length bytes ≤ max_file) files.now }
     ensures { ChecksThree files.now result }
 {
     check_module(
@@ -90,10 +82,11 @@ fn check_files(alloc: Global, project: &Name, files: &[Bytes]) -> Result<Accepte
     )
 }
 
-/// Judges the project of that name, whose bytes and files are given: the project file first, and then the three files
-/// of each of its modules in order. The first refusal in the order of the files is the answer: those of the project
-/// file (103, and 199 for a second module), a source, a specification or a script that is not of the form that is built
-/// (199), and those of the proof of `main` (610, 611, and what its commands refuse).
+/// Judges the project of that name, whose bytes and files are given within their limits: the project file first, and
+/// then the three files of its module in order. The first refusal in the order of the files is the answer: those of the
+/// project file (103, and 199 for a second module); those of the tokens of a source, a specification or a script (201 to
+/// 205), each followed by 199 where it is not of the form that is built; and those of the proof of `main` (610, 611, and
+/// what its commands refuse).
 ///
 /// Where it answers Ok, the program that the files stand for is sound.
 pub fn check_bytes(alloc: Global, project: &Name, files: &FileList) -> Result<Accepted, Halt>

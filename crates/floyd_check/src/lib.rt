@@ -6,6 +6,7 @@ mod files;
 mod laws;
 mod modules;
 mod program;
+mod reading;
 
 pub use check::{Accepted, NameList, check_bytes};
 pub use files::FileList;

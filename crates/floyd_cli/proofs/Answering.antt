@@ -1,9 +1,9 @@
 -- What is answered, by what was loaded and judged.
 use Rattle.std.specs.Prelude.{slice_get}
-use Rattle.std.proofs.Common.{◌≡◌, ◌≢◌, ℕ, ◌+◌, nat_le, length, Bool, true, false, cond, List, [], ◌∷◌, Option, Some, None, Result, Ok, Err, refl, sym, ap, subst, ◌∙◌}
+use Rattle.std.proofs.Common.{◌≡◌, ℕ, ◌+◌, nat_le, length, Bool, true, false, cond, List, [], ◌∷◌, Option, Some, None, Result, Ok, Err, refl, sym, ap, subst, ◌∙◌}
 use Rattle.floyd_text.specs.declared.place.Place.{Place}
 use Rattle.floyd_text.specs.declared.refusal.Refusal.{Refusal}
-use Rattle.floyd_text.specs.Outside.{Files, file_in, Appends, AppendsFront}
+use Rattle.floyd_text.specs.Outside.{Files, file_in}
 use Rattle.floyd_text.specs.Place.{first_place}
 use Rattle.floyd_project.specs.declared.module.FileName.{FileName}
 use Rattle.floyd_project.specs.declared.module.Module.{Module}
@@ -11,15 +11,14 @@ use Rattle.floyd_project.specs.declared.draft.Expected.TheVariants.{AModule}
 use Rattle.floyd_project.specs.Lines.{lines_from}
 use Rattle.floyd_project.specs.Project.{project_of, bad_project, read_lines}
 use Rattle.std.specs.List.{flat_map}
-use Rattle.floyd_check.specs.Loading.{refused, on_ok, bytes_at, within_all, named_at, next_file, files_from, files_of, built_modules, modules_of, loaded, names_in, names_with, max_file, max_files}
-use Rattle.floyd_check.specs.Verdict.{Program, JudgesFiles, JudgesLoaded, IsVerdict}
-use Rattle.floyd_cli.specs.declared.status.Status.{Status}
+use Rattle.floyd_check.specs.Loading.{refused, on_ok, bytes_at, within_all, named_at, next_file, files_from, files_of, built_modules, modules_of, loaded, names_with, max_file, max_files}
+use Rattle.floyd_check.specs.Verdict.{Program, JudgesFiles, JudgesLoaded}
 use Rattle.floyd_cli.specs.declared.status.Status.TheVariants as s
 use Rattle.floyd_cli.specs.declared.top.Answer.{Answer}
 use Rattle.floyd_cli.specs.Loads.{HasProject, HasNames}
 use Rattle.floyd_cli.specs.Texts.{refusal_text, line_text, name_in}
-use Rattle.floyd_cli.specs.Causes.{HasVerdict, HasText, SoundIf, status_of, verdict_text, Judged}
-use Rattle.floyd_cli.specs.Judging.{JudgedFiles, Writes, Written, ChecksProject, WritesUsage}
+use Rattle.floyd_cli.specs.Causes.{HasVerdict, HasText, verdict_text, Judged}
+use Rattle.floyd_cli.specs.Judging.{JudgedFiles}
 
 has_verdict : (held : Option Files) (name : List ℕ) (files : List (List ℕ)) (v : Result Program Refusal) → HasProject held name (Ok files) → JudgesFiles files v → HasVerdict held name v
 unfolding HasProject HasVerdict

@@ -1,10 +1,9 @@
 -- What the causes of a status say of acceptance, and that they are exact.
-use Rattle.std.proofs.Common.{◌≡◌, ℕ, List, Option, Some, None, Result, Ok, Err, refl, sym, ap, subst, ◌∙◌, inl, inr, ◌⊎◌}
+use Rattle.std.proofs.Common.{◌≡◌, ℕ, List, Option, Some, None, Result, Ok, Err, refl, sym, ap, subst, ◌∙◌, inl, inr}
 use Rattle.floyd_text.specs.declared.refusal.Refusal.{Refusal}
 use Rattle.floyd_text.specs.Outside.{Files, Appends}
-use Rattle.floyd_runs.specs.Sound.{Sound}
 use Rattle.floyd_check.specs.Loading.{names_in}
-use Rattle.floyd_check.specs.Verdict.{Program, linked_of, IsVerdict}
+use Rattle.floyd_check.specs.Verdict.{Program}
 use Rattle.floyd_check.proofs.OneVerdict.{one_verdict}
 use Rattle.floyd_cli.specs.declared.status.Status.{Status}
 use Rattle.floyd_cli.specs.declared.status.Status.TheVariants as s

@@ -1,22 +1,20 @@
 -- What follows from the words about loading.
-use Rattle.std.proofs.Common.{◌≡◌, ℕ, ◌+◌, ◌<◌, ◌≤◌, Bool, true, false, cond, List, [], ◌∷◌, ◌++◌, length, map, Option, Some, None, Result, Ok, Err, refl, sym, ◌∙◌, ap, subst, arith, append_assoc, append-nil, nat_le, leb-true, leb-false, eqb-true, ◌&&◌, ◌||◌, ◌==◌, zero, suc, drop, get_or}
+use Rattle.std.proofs.Common.{◌≡◌, ℕ, ◌+◌, ◌<◌, ◌≤◌, Bool, true, false, cond, List, [], ◌∷◌, ◌++◌, length, Option, Some, None, Result, Ok, Err, refl, sym, ◌∙◌, ap, subst, arith, append_assoc, append-nil, nat_le, leb-true, leb-false, eqb-true, ◌&&◌, ◌||◌, ◌==◌, zero, suc, drop, get_or}
 use Rattle.std.specs.Prelude.{IsSomeAnd, slice_index}
 use Rattle.std.specs.Str.{IsUtf8}
 use Rattle.std.proofs.lemmas.Str.{IsUtf8-from_ascii}
-use Rattle.std.specs.List.{flat_map, list_all}
+use Rattle.std.specs.List.{list_all}
 use Rattle.floyd_text.specs.declared.place.Place.{Place}
 use Rattle.floyd_text.specs.declared.refusal.Refusal.{Refusal}
 use Rattle.floyd_text.specs.Outside.{Files, file_in, HasFile, HasNone, HasLonger}
-use Rattle.floyd_text.specs.Place.{first_place}
 use Rattle.floyd_project.specs.declared.module.FileName.{FileName}
-use Rattle.floyd_project.specs.declared.module.Module.{Module}
 use Rattle.floyd_project.specs.Lines.{is_file_name, is_file_byte, is_digit}
-use Rattle.floyd_check.specs.Loading.{bytes_at, named_at, next_file, files_from, files_of, loaded, names_in, names_with, modules_of, refused, max_file, max_files, on_ok, within_all}
+use Rattle.floyd_check.specs.Loading.{bytes_at, named_at, files_from, refused, max_file, max_files, on_ok, within_all}
 use Rattle.std.proofs.lemmas.List.{drop_more, drop_all}
 use Rattle.floyd_text.proofs.OutsideLemmas.{rose_after}
 use Rattle.floyd_cli.specs.declared.load.LoadStop.{LoadStop}
 use Rattle.floyd_cli.specs.declared.load.LoadStop.TheVariants.{Refused, Fault, Memory}
-use Rattle.floyd_cli.specs.Loads.{HasBytes, HasNext, HasFiles, HasProject, HasNames, AreNamed, ReadsNext, ReadsFiles}
+use Rattle.floyd_cli.specs.Loads.{HasBytes, HasNext, HasFiles, AreNamed, ReadsNext, ReadsFiles}
 
 small : (place : Place) (bytes : List ℕ) (b : Bool) → nat_le (length bytes) max_file ≡ b → length bytes ≤ max_file → cond b (Ok bytes) (Err (refused 102 place)) ≡ Ok bytes
 small place bytes true e h = refl

@@ -1,17 +1,17 @@
 -- What loading a project gives, by what its parts give.
-use Rattle.std.proofs.Common.{◌≡◌, ℕ, List, [], ◌∷◌, ◌++◌, map, Option, Some, None, Result, Ok, Err, refl, sym, ◌∙◌, ap, subst}
+use Rattle.std.proofs.Common.{◌≡◌, ℕ, List, [], ◌∷◌, map, Option, Some, None, Result, Ok, Err, refl, ◌∙◌, ap, subst}
 use Rattle.std.specs.List.{flat_map}
 use Rattle.floyd_text.specs.declared.refusal.Refusal.{Refusal}
 use Rattle.floyd_text.specs.declared.refusal.Halt.{Halt}
 use Rattle.floyd_text.specs.declared.refusal.Halt.TheVariants as h
 use Rattle.floyd_text.specs.Gives.{Stops}
-use Rattle.floyd_text.specs.Outside.{Files, file_in}
+use Rattle.floyd_text.specs.Outside.{Files}
 use Rattle.floyd_text.specs.Place.{first_place}
 use Rattle.floyd_project.specs.declared.module.FileName.{FileName}
 use Rattle.floyd_project.specs.declared.module.Module.{Module}
 use Rattle.floyd_project.specs.Project.{project_of}
 use Rattle.floyd_project.proofs.NameLaws.{AllNamed, project_named}
-use Rattle.floyd_check.specs.Loading.{bytes_at, files_from, files_of, loaded, names_in, names_with, modules_of, built_modules, on_ok}
+use Rattle.floyd_check.specs.Loading.{files_from, files_of, names_with, modules_of, built_modules, on_ok}
 use Rattle.floyd_cli.specs.declared.load.LoadStop.{LoadStop}
 use Rattle.floyd_cli.specs.declared.load.LoadStop.TheVariants.{Refused, Fault, Memory}
 use Rattle.floyd_cli.specs.Loads.{HasBytes, HasFiles, HasProject, HasNames, AreNamed, ReadsFile, ReadsFiles, Loads, stop_of}

@@ -1,5 +1,5 @@
 -- What was written, and the cause of each status.
-use Rattle.std.proofs.Common.{◌≡◌, ◌≢◌, ℕ, List, Option, Some, None, Result, Ok, Err, refl, sym, ap, subst, ◌∙◌}
+use Rattle.std.proofs.Common.{◌≡◌, ◌≢◌, ℕ, List, Option, Some, None, Result, Ok, Err, sym, subst, ◌∙◌}
 use Rattle.floyd_text.specs.declared.refusal.Refusal.{Refusal}
 use Rattle.floyd_text.specs.Outside.{Files, Appends, AppendsFront}
 use Rattle.floyd_check.specs.Verdict.{Program}
@@ -7,8 +7,8 @@ use Rattle.floyd_cli.specs.declared.status.Status.{Status}
 use Rattle.floyd_cli.specs.declared.status.Status.TheVariants as s
 use Rattle.floyd_cli.specs.Texts.{usage_text}
 use Rattle.floyd_cli.specs.Words.{wrong_word, project_in}
-use Rattle.floyd_cli.specs.Causes.{Judged, status_of, Answers, Misused, Causes, WritesFront}
-use Rattle.floyd_cli.specs.Judging.{Writes, Written, ChecksProject, WritesUsage}
+use Rattle.floyd_cli.specs.Causes.{Judged, status_of, Causes, WritesFront}
+use Rattle.floyd_cli.specs.Judging.{Writes, ChecksProject, WritesUsage}
 
 -- a status that is no verdict's
 abbrev IsOther : Status → Type 0

@@ -1,5 +1,5 @@
 -- What is answered before it is written.
-use Rattle.std.specs.Prelude.{◌≡◌, ℕ, List, Option, None, Result, Ok, Err}
+use Rattle.std.specs.Prelude.{◌≡◌, ℕ, List, Option, Result, Ok, Err}
 use Rattle.floyd_text.specs.declared.refusal.Refusal.{Refusal}
 use Rattle.floyd_text.specs.Outside.{Files, Rose, Appends, AppendsFront}
 use Rattle.floyd_check.specs.Verdict.{Program, JudgesFiles}

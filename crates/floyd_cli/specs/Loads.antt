@@ -1,5 +1,5 @@
 -- What loading a project answers, where the shelf tells what it holds.
-use Rattle.std.specs.Prelude.{◌≡◌, ℕ, true, List, [], ◌∷◌, ◌++◌, Option, Some, None, Result, Ok, Err}
+use Rattle.std.specs.Prelude.{◌≡◌, ℕ, true, List, [], ◌∷◌, Option, Some, None, Result, Ok, Err}
 use Rattle.floyd_text.specs.declared.place.Place.{Place}
 use Rattle.floyd_text.specs.declared.refusal.Refusal.{Refusal}
 use Rattle.floyd_text.specs.declared.refusal.Halt.{Halt}
@@ -7,7 +7,7 @@ use Rattle.floyd_text.specs.declared.refusal.Halt.TheVariants as h
 use Rattle.floyd_text.specs.Outside.{Files, file_in, Rose}
 use Rattle.floyd_project.specs.declared.module.FileName.{FileName}
 use Rattle.floyd_project.specs.Lines.{is_file_name}
-use Rattle.floyd_check.specs.Loading.{bytes_at, named_at, next_file, files_from, loaded, names_in}
+use Rattle.floyd_check.specs.Loading.{bytes_at, next_file, files_from, loaded, names_in}
 use Rattle.floyd_cli.specs.declared.load.LoadStop.{LoadStop}
 use Rattle.floyd_cli.specs.declared.load.LoadStop.TheVariants.{Refused, Fault, Memory}
 use Rattle.floyd_cli.specs.declared.load.Loaded.{Loaded}

@@ -1,6 +1,6 @@
-ghost use Rattle.std.specs.Prelude.{◌≡◌, ◌+◌, ◌≤◌, IfOk, Ok, true, length, map, [], ◌∷◌, ◌++◌};
-ghost use Rattle.std.specs.List.{flat_map};
-ghost use Rattle.floyd_check.specs.Loading.{files_of, named_at, refused};
+ghost use Rattle.std.specs.Prelude.{◌≡◌, ◌+◌, ◌≤◌, IfOk, Ok, true, length, map, All, [], ◌∷◌, ◌++◌};
+ghost use Rattle.std.specs.List.{flat_map, sum_by};
+ghost use Rattle.floyd_check.specs.Loading.{files_of, max_file, max_files, named_at, refused};
 ghost use Rattle.floyd_check.specs.Verdict.{AreFiles};
 ghost use Rattle.floyd_text.specs.Place.{first_place};
 ghost use Rattle.floyd_project.specs.declared.module.FileName.{FileName};
@@ -70,6 +70,7 @@ fn place_named(project: &[u8], file: &FileName) -> Place
 #[tactic(auto, using(crate::proofs::LoadLemmas::has_bytes, crate::proofs::LoadLemmas::has_missing, crate::proofs::LoadLemmas::has_large))]
 fn read_project_file<H: Shelf>(alloc: Global, shelf: &mut H, name: &str) -> Result<Bytes, LoadStop>
     ensures gives { ReadsFile (H.held shelf.old) (first_place 0) name.now (H.faults shelf.old) (H.faults shelf.new) result }
+    ensures small { IfOk result (λ bytes. length bytes ≤ max_file) }
     ensures held { H.held shelf.new ≡ H.held shelf.old }
     ensures later { H.faults shelf.old ≤ H.faults shelf.new }
 {
@@ -97,6 +98,7 @@ fn read_named<H: Shelf>(
 ) -> Result<Bytes, LoadStop>
     requires { is_file_name file.now.name ≡ true }
     ensures gives { ReadsFile (H.held shelf.old) (named_at project.now file.now) file.now.name (H.faults shelf.old) (H.faults shelf.new) result }
+    ensures small { IfOk result (λ bytes. length bytes ≤ max_file) }
     ensures held { H.held shelf.new ≡ H.held shelf.old }
     ensures later { H.faults shelf.old ≤ H.faults shelf.new }
 {
@@ -130,6 +132,7 @@ fn read_next<H: Shelf>(
     requires named { is_file_name file.now.name ≡ true }
     requires small { total ≤ 16777216 }
     ensures gives { ReadsNext (H.held shelf.old) project.now total file.now (H.faults shelf.old) (H.faults shelf.new) result }
+    ensures small { IfOk result (λ bytes. length bytes ≤ max_file) }
     ensures within { IfOk result (λ bytes. total + length bytes ≤ 16777216) }
     ensures held { H.held shelf.new ≡ H.held shelf.old }
     ensures later { H.faults shelf.old ≤ H.faults shelf.new }
@@ -151,6 +154,8 @@ fn read_files<H: Shelf>(
     requires { AreNamed named.now }
     ensures gives { ReadsFiles (H.held shelf.old) project.now named.now (H.faults shelf.old) (H.faults shelf.new) result }
     ensures len { IfOk result (λ files. length files ≡ length named.now) }
+    ensures small { IfOk result (All (λ bytes. length bytes ≤ max_file)) }
+    ensures all_small { IfOk result (λ files. sum_by length files ≤ max_files) }
     ensures held { H.held shelf.new ≡ H.held shelf.old }
     ensures later { H.faults shelf.old ≤ H.faults shelf.new }
 {
@@ -226,7 +231,8 @@ fn load_files<H: Shelf>(
     name: &str,
     project: Bytes,
 ) -> Result<Loaded, LoadStop>
-    requires { HasBytes (H.held shelf.old) (first_place 0) name.now (Ok project) }
+    requires held { HasBytes (H.held shelf.old) (first_place 0) name.now (Ok project) }
+    requires small { length project ≤ max_file }
     ensures gives { Loads (H.held shelf.old) name.now (H.faults shelf.old) (H.faults shelf.new) result }
     ensures files { IfOk result (λ loaded. AreFiles loaded.files) }
     ensures held { H.held shelf.new ≡ H.held shelf.old }

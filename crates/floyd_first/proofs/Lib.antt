@@ -1,5 +1,4 @@
-pub mod Cut
-pub mod First
+pub mod LeftLemmas
 pub mod MainForm
 pub mod Numerals
 pub mod ScriptForm

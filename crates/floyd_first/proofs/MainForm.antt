@@ -1,20 +1,18 @@
 -- What a `main` reads as, both ways.
-use Rattle.std.proofs.Common.{◌≡◌, ℕ, ◌^◌, ◌≤◌, ◌<◌, Bool, true, leb, not, ◌&&◌, List, [], ◌∷◌, ◌++◌, map, length, refl, sym, ap, subst, ◌∙◌, arith, inl, inr, Option, Some, None, bytes_eq, codes}
+use Rattle.std.proofs.Common.{◌≡◌, ℕ, Bool, true, leb, not, ◌&&◌, List, [], ◌∷◌, ◌++◌, refl, sym, ap, subst, ◌∙◌, inl, inr, Option, Some, None, bytes_eq, codes}
 use Rattle.std.specs.Fmt.{decimal}
 use Rattle.std.specs.List.{list_any, list_all, flat_map}
 use Rattle.std.specs.Option.{option_map}
-use Rattle.std.proofs.lemmas.Bool.{cases_Bool, and_parts, and_from, leb-true, le-leb, or_cases, false≢true, not-true}
-use Rattle.std.proofs.lemmas.List.{append_assoc, append-nil, length-map}
-use Rattle.std.proofs.lemmas.List.Folds.{list_all-append, list_all-map}
+use Rattle.std.proofs.lemmas.Bool.{cases_Bool, and_parts, and_from, leb-true, le-leb, false≢true, not-true}
+use Rattle.std.proofs.lemmas.List.{append_assoc, append-nil}
+use Rattle.std.proofs.lemmas.List.Folds.{list_all-append}
 use Rattle.floyd_first.specs.declared.form.Set.{Set}
 use Rattle.floyd_first.specs.declared.form.Main.{Main}
-use Rattle.floyd_first.specs.Spaced.{Token}
-use Rattle.floyd_first.specs.Cut.{cut, texts}
-use Rattle.floyd_first.specs.Forms.{ReadsAs, IsMain, max_tokens, is_name, is_well_formed, are_distinct, declaration, assignment, main_texts}
+use Rattle.floyd_lex.specs.Token.{Token}
+use Rattle.floyd_first.specs.Forms.{ReadsAs, IsMain, texts, is_name, is_well_formed, are_distinct, declaration, assignment, main_texts}
 use Rattle.floyd_first.specs.Reading.{after_all, set_of, ending, with_set, sets_from, main_from, main_head, main_after, main_of, can_declare, int_of, is_nil}
-use Rattle.floyd_first.proofs.Cut.{is_piece, are_pieces, spaced_is_cut, cut_is_spaced}
-use Rattle.floyd_first.proofs.Numerals.{int_read, int_given, decimal_is_piece}
-use Rattle.floyd_first.proofs.Texts.{same, nil_is, after_read, after_given, among, distinct_push, distinct_at, name_is_piece, name_is_none, flat_pieces}
+use Rattle.floyd_first.proofs.Numerals.{int_read, int_given}
+use Rattle.floyd_first.proofs.Texts.{same, nil_is, after_read, after_given, among, distinct_push, distinct_at, name_is_none}
 
 abbrev end_texts : List ℕ → List (List ℕ)
 end_texts name = codes "return" ∷ name ∷ codes ";" ∷ codes "}" ∷ []
@@ -274,70 +272,17 @@ main_of_read ts m e = by_rest (after_all main_head ts) refl e
         r.texts_are ∙ ap (λ (d : List (List ℕ)). flat_map declaration d ++ (flat_map assignment m.sets ++ end_texts m.returned)) (sym r.declared_is) in
         (after_read main_head ts rest is ∙ (ap (λ (x : List (List ℕ)). main_head ++ x) texts ∙ sym (regrouped m)), r.well)
 
--- each text of a `main` is a word or a mark
-main_pieces : (m : Main) → Parts m → list_all is_piece (main_texts m) ≡ true
-main_pieces m p =
-    list_all-append is_piece (main_head ++ flat_map declaration m.declared ++ flat_map assignment m.sets) (end_texts m.returned)
-    ∙ and_from _ _ (list_all-append is_piece (main_head ++ flat_map declaration m.declared) (flat_map assignment m.sets)
-    ∙ and_from _ _ (list_all-append is_piece main_head (flat_map declaration m.declared) ∙ and_from _ _ refl (flat_pieces declaration is_name declaration_pieces m.declared p.names))
-    (flat_pieces assignment is_plain assignment_pieces m.sets (plain m.sets p.of_declared p.ints)))
-    (rw (name_is_piece m.returned (returned_name m.sets p.assigned (plain m.sets p.of_declared p.ints))) refl)
+pub main_reads : (ts : List Token) → ReadsAs (IsMain ts) (main_of (texts ts))
+main_reads ts = by_answer (main_of (texts ts)) refl
   where
-    is_plain : Set → Bool
-    is_plain s = is_name s.name && is_int s
-
-    declaration_pieces : (x : List ℕ) → is_name x ≡ true → list_all is_piece (declaration x) ≡ true
-    declaration_pieces x e = rw (name_is_piece x e) refl
-
-    assignment_pieces : (s : Set) → is_plain s ≡ true → list_all is_piece (assignment s) ≡ true
-    assignment_pieces s e =
-        let both = and_parts (is_name s.name) (is_int s) e in
-        let fits : s.value < 2 ^ 64 = omega (arith, leb-true s.value 2147483647 both.1) in
-        rw (name_is_piece s.name both.0, decimal_is_piece s.value fits) refl
-
-    plain : (sets : List Set) → list_all (is_declared m.declared) sets ≡ true → list_all is_int sets ≡ true → list_all is_plain sets ≡ true
-    plain [] d i = refl
-    plain (s ∷ sets) d i =
-        let ds = and_parts (is_declared m.declared s) (list_all (is_declared m.declared) sets) d in
-        let is = and_parts (is_int s) (list_all is_int sets) i in
-        and_from _ _ (and_from _ _ (among is_name m.declared s.name ds.0 p.names) is.0) (plain sets ds.1 is.1)
-
-    returned_name : (sets : List Set) → is_assigned m.returned sets ≡ true → list_all is_plain sets ≡ true → is_name m.returned ≡ true
-    returned_name [] a all = absurd (false≢true a)
-    returned_name (s ∷ sets) a all =
-        let both = and_parts (is_plain s) (list_all is_plain sets) all in
-        elim (or_cases (bytes_eq s.name m.returned) (is_assigned m.returned sets) a) [
-          | inl e ↦ sym (ap is_name (same s.name m.returned e)) ∙ (and_parts (is_name s.name) (is_int s) both.0).0
-          | inr e ↦ returned_name sets e both.1
-        ]
-
--- the texts of bytes that are a `main`
-main_texts_of : (bytes : List ℕ) (m : Main) → IsMain bytes m → (texts bytes ≡ main_texts m) × (length (texts bytes) ≤ max_tokens)
-main_texts_of bytes m h =
-    let ts = h.0 in
-    let pieces : are_pieces ts ≡ true = sym (list_all-map is_piece (λ (t : Token). t.text) ts) ∙ (ap (list_all is_piece) h.2 ∙ main_pieces m (parts_of m h.4)) in
-    let is : cut 0 bytes ≡ ts = spaced_is_cut 0 ts bytes h.1 pieces in
-    let len : length (texts bytes) ≡ length ts = ap (λ (us : List Token). length (map (λ (t : Token). t.text) us)) is ∙ length-map ts (λ (t : Token). t.text) in
-    (ap (map (λ (t : Token). t.text)) is ∙ h.2, omega (arith, len, h.3))
-
-pub main_reads : (bytes : List ℕ) → length (texts bytes) ≤ max_tokens → ReadsAs (IsMain bytes) (main_of (texts bytes))
-main_reads bytes few = by_answer (main_of (texts bytes)) refl
-  where
-    by_answer : (o : Option Main) → main_of (texts bytes) ≡ o → ReadsAs (IsMain bytes) o
+    by_answer : (o : Option Main) → main_of (texts ts) ≡ o → ReadsAs (IsMain ts) o
     by_answer None e = λ m h.
-        let t = main_texts_of bytes m h in
-        let wrong : None ≡ Some m = sym e ∙ (ap main_of t.0 ∙ main_of_texts m h.4) in
+        let wrong : None ≡ Some m = sym e ∙ (ap main_of h.0 ∙ main_of_texts m h.1) in
         absurd cc
-    by_answer (Some m) e =
-        let r = main_of_read (texts bytes) m e in
-        let len = length-map (cut 0 bytes) (λ (t : Token). t.text) in
-        (cut 0 bytes, cut_is_spaced 0 bytes, r.0, omega (arith, len, few), r.1)
+    by_answer (Some m) e = main_of_read (texts ts) m e
 
-pub main_too_long : (bytes : List ℕ) → max_tokens < length (texts bytes) → ReadsAs (IsMain bytes) None
-main_too_long bytes many = λ m h. omega (arith, (main_texts_of bytes m h).1)
-
-pub same_main : (bytes : List ℕ) (m n : Main) → IsMain bytes m → IsMain bytes n → m ≡ n
-same_main bytes m n h k =
-    let one : main_of (texts bytes) ≡ Some m = ap main_of (main_texts_of bytes m h).0 ∙ main_of_texts m h.4 in
-    let two : main_of (texts bytes) ≡ Some n = ap main_of (main_texts_of bytes n k).0 ∙ main_of_texts n k.4 in
+pub same_main : (ts : List Token) (m n : Main) → IsMain ts m → IsMain ts n → m ≡ n
+same_main ts m n h k =
+    let one : main_of (texts ts) ≡ Some m = ap main_of h.0 ∙ main_of_texts m h.1 in
+    let two : main_of (texts ts) ≡ Some n = ap main_of k.0 ∙ main_of_texts n k.1 in
     some_is m n (sym one ∙ two)

@@ -6,12 +6,10 @@ use Rattle.std.specs.Char.{digit_value}
 use Rattle.std.specs.Str.Parse.{digits_value}
 use Rattle.std.proofs.lemmas.Int.Digits.{digits_value_more}
 use Rattle.std.proofs.lemmas.List.Sums.{AllPass-from_list_all}
-use Rattle.std.proofs.lemmas.Bool.{cases_Bool, and_parts, and_from, leb-true, le-leb, eqb-true, not_from_false, false_from_ne_true, false≢true, cases_eq, or_right, le-ltb, lt-ltb, lt-leb}
+use Rattle.std.proofs.lemmas.Bool.{cases_Bool, and_parts, and_from, leb-true, le-leb, eqb-true, not_from_false, false_from_ne_true, false≢true, cases_eq, le-ltb, lt-ltb, lt-leb}
 use Rattle.std.proofs.lemmas.Fmt.{digits_decimal, digits_value-decimal, decimal-digits_value, decimal_nonempty, first_decimal, decimal_digit}
 use Rattle.std.proofs.lemmas.Str.Parse.{IsNumeralModel, IsDigitsTest, numerals_by_value, digits_value-take-le}
-use Rattle.floyd_first.specs.Spaced.{is_digit, is_word_byte, is_letter}
-use Rattle.floyd_first.specs.Reading.{is_numeral, small, int_of}
-use Rattle.floyd_first.proofs.Cut.{is_piece}
+use Rattle.floyd_first.specs.Reading.{is_digit, is_numeral, small, int_of}
 
 abbrev are_digits : List ℕ → Type 0
 are_digits ds = list_all is_digit ds ≡ true
@@ -85,25 +83,6 @@ pub int_given : (n : ℕ) → n ≤ 2147483647 → int_of (decimal n) ≡ Some n
 int_given n h =
     let fits : n < 2 ^ 64 = omega arith in
     rw (decimal_is_numeral n fits, digits_value-decimal own n fits, le-leb n 2147483647 h) refl
-
--- digits are a word
-digits_piece : (ds : List ℕ) → are_digits ds → 0 < length ds → is_piece ds ≡ true
-digits_piece [] all some = absurd (omega arith)
-digits_piece (d ∷ ds) all some =
-    let both = and_parts (is_digit d) (list_all is_digit ds) all in
-    rw (in_word d both.0) (words ds both.1)
-  where
-    in_word : (d : ℕ) → is_digit d ≡ true → is_word_byte d ≡ true
-    in_word d e = or_right (is_letter d) (is_digit d) e
-
-    words : (ds : List ℕ) → list_all is_digit ds ≡ true → list_all is_word_byte ds ≡ true
-    words [] e = refl
-    words (d ∷ ds) e =
-        let both = and_parts (is_digit d) (list_all is_digit ds) e in
-        and_from (is_word_byte d) (list_all is_word_byte ds) (in_word d both.0) (words ds both.1)
-
-pub decimal_is_piece : (n : ℕ) → n < 2 ^ 64 → is_piece (decimal n) ≡ true
-decimal_is_piece n h = digits_piece (decimal n) (digits_decimal own n h) (decimal_nonempty n h)
 
 digit_is : (c : ℕ) → is_digit c ≡ true → digit_value c ≡ c - 48
 digit_is c e =

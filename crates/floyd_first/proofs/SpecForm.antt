@@ -1,15 +1,11 @@
 -- What a specification reads as, both ways.
-use Rattle.std.proofs.Common.{◌≡◌, ℕ, ◌^◌, ◌≤◌, ◌<◌, true, List, [], ◌∷◌, ◌++◌, map, refl, sym, ap, ◌∙◌, arith, inl, inr, Option, Some, None}
+use Rattle.std.proofs.Common.{◌≡◌, ℕ, ◌≤◌, true, List, [], ◌∷◌, ◌++◌, refl, sym, ap, ◌∙◌, inl, inr, Option, Some, None}
 use Rattle.std.specs.Fmt.{decimal}
-use Rattle.std.specs.List.{list_all}
 use Rattle.std.proofs.lemmas.Bool.{cases_Bool, false≢true}
-use Rattle.std.proofs.lemmas.List.Folds.{list_all-map}
-use Rattle.floyd_first.specs.Spaced.{Token}
-use Rattle.floyd_first.specs.Cut.{cut, texts}
-use Rattle.floyd_first.specs.Forms.{ReadsAs, IsSpec, spec_texts}
+use Rattle.floyd_lex.specs.Token.{Token}
+use Rattle.floyd_first.specs.Forms.{ReadsAs, IsSpec, spec_texts, texts}
 use Rattle.floyd_first.specs.Reading.{after_all, spec_head, spec_end, is_end, spec_after, spec_of}
-use Rattle.floyd_first.proofs.Cut.{is_piece, are_pieces, spaced_is_cut, cut_is_spaced}
-use Rattle.floyd_first.proofs.Numerals.{int_read, int_given, decimal_is_piece}
+use Rattle.floyd_first.proofs.Numerals.{int_read, int_given}
 use Rattle.floyd_first.proofs.Texts.{after_read, after_given, nil_is}
 
 spec_of_texts : (n : ℕ) → n ≤ 2147483647 → spec_of (spec_texts n) ≡ Some n
@@ -37,31 +33,18 @@ spec_of_read ts n e = by_rest (after_all spec_head ts) refl e
           absurd cc
     ]
 
-spec_pieces : (n : ℕ) → n ≤ 2147483647 → list_all is_piece (spec_texts n) ≡ true
-spec_pieces n h =
-    let fits : n < 2 ^ 64 = omega arith in
-    rw (decimal_is_piece n fits) refl
-
-spec_texts_of : (bytes : List ℕ) (n : ℕ) → IsSpec bytes n → texts bytes ≡ spec_texts n
-spec_texts_of bytes n h =
-    let ts = h.0 in
-    let pieces : are_pieces ts ≡ true = sym (list_all-map is_piece (λ (t : Token). t.text) ts) ∙ (ap (list_all is_piece) h.2 ∙ spec_pieces n h.3) in
-    ap (map (λ (t : Token). t.text)) (spaced_is_cut 0 ts bytes h.1 pieces) ∙ h.2
-
-pub spec_reads : (bytes : List ℕ) → ReadsAs (IsSpec bytes) (spec_of (texts bytes))
-spec_reads bytes = by_answer (spec_of (texts bytes)) refl
+pub spec_reads : (ts : List Token) → ReadsAs (IsSpec ts) (spec_of (texts ts))
+spec_reads ts = by_answer (spec_of (texts ts)) refl
   where
-    by_answer : (o : Option ℕ) → spec_of (texts bytes) ≡ o → ReadsAs (IsSpec bytes) o
+    by_answer : (o : Option ℕ) → spec_of (texts ts) ≡ o → ReadsAs (IsSpec ts) o
     by_answer None e = λ n h.
-        let wrong : None ≡ Some n = sym e ∙ (ap spec_of (spec_texts_of bytes n h) ∙ spec_of_texts n h.3) in
+        let wrong : None ≡ Some n = sym e ∙ (ap spec_of h.0 ∙ spec_of_texts n h.1) in
         absurd cc
-    by_answer (Some n) e =
-        let r = spec_of_read (texts bytes) n e in
-        (cut 0 bytes, cut_is_spaced 0 bytes, r.0, r.1)
+    by_answer (Some n) e = spec_of_read (texts ts) n e
 
-pub same_spec : (bytes : List ℕ) (m n : ℕ) → IsSpec bytes m → IsSpec bytes n → m ≡ n
-same_spec bytes m n h k =
-    let one : spec_of (texts bytes) ≡ Some m = ap spec_of (spec_texts_of bytes m h) ∙ spec_of_texts m h.3 in
-    let two : spec_of (texts bytes) ≡ Some n = ap spec_of (spec_texts_of bytes n k) ∙ spec_of_texts n k.3 in
+pub same_spec : (ts : List Token) (m n : ℕ) → IsSpec ts m → IsSpec ts n → m ≡ n
+same_spec ts m n h k =
+    let one : spec_of (texts ts) ≡ Some m = ap spec_of h.0 ∙ spec_of_texts m h.1 in
+    let two : spec_of (texts ts) ≡ Some n = ap spec_of k.0 ∙ spec_of_texts n k.1 in
     let both : Some m ≡ Some n = sym one ∙ two in
     cc

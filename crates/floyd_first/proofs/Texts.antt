@@ -1,13 +1,11 @@
--- Texts that are expected, names, and pieces in lists of texts.
+-- Texts that are expected, and names.
 use Rattle.std.proofs.Common.{◌≡◌, ℕ, ◌<◌, Bool, true, false, not, ◌||◌, List, [], ◌∷◌, ◌++◌, length, map, refl, sym, ap, ◌∙◌, arith, inl, inr, Some, None, bytes_eq}
-use Rattle.std.specs.List.{list_any, list_all, flat_map}
-use Rattle.std.proofs.lemmas.Bool.{cases_Bool, and_parts, and_from, or_cases, or_parts, or_from, or_left, false_from_ne_true, both_ways, false≢true, not-true, not_from_false}
-use Rattle.std.proofs.lemmas.List.Folds.{list_all-append, list_any-append}
+use Rattle.std.specs.List.{list_any, list_all}
+use Rattle.std.proofs.lemmas.Bool.{cases_Bool, and_parts, and_from, or_cases, or_parts, or_from, false_from_ne_true, both_ways, false≢true, not-true, not_from_false}
+use Rattle.std.proofs.lemmas.List.Folds.{list_any-append}
 use Rattle.std.proofs.lemmas.Slice.Eq.{bytes_eq-Decides}
-use Rattle.floyd_first.specs.Spaced.{is_letter, is_digit, is_word_byte}
-use Rattle.floyd_first.specs.Forms.{is_identifier, is_name, are_distinct, words_of_c}
+use Rattle.floyd_first.specs.Forms.{is_name, are_distinct, words_of_c}
 use Rattle.floyd_first.specs.Reading.{after_all, is_nil}
-use Rattle.floyd_first.proofs.Cut.{is_piece}
 
 pub same : (xs ys : List ℕ) → bytes_eq xs ys ≡ true → xs ≡ ys
 same xs ys = (bytes_eq-Decides xs ys).0
@@ -76,25 +74,7 @@ distinct_at (y ∷ ys) more x d =
     let here = (or_parts (list_any (bytes_eq y) ys) (bytes_eq y x || list_any (bytes_eq y) more) none).1 in
     or_from (bytes_eq x y) (list_any (bytes_eq x) ys) (other y x (or_parts (bytes_eq y x) (list_any (bytes_eq y) more) here).0) (distinct_at ys more x both.1)
 
--- a name is a word, and no word of C
-pub name_is_piece : (x : List ℕ) → is_name x ≡ true → is_piece x ≡ true
-name_is_piece x e = word x (and_parts (is_identifier x) _ (and_parts _ _ e).0).0
-  where
-    word : (x : List ℕ) → is_identifier x ≡ true → is_piece x ≡ true
-    word [] e = absurd (false≢true e)
-    word (b ∷ bs) e =
-        let both = and_parts (is_letter b) (list_all is_word_byte bs) e in
-        let first : is_word_byte b ≡ true = or_left (is_letter b) (is_digit b) both.0 in
-        rw first both.1
-
+-- a name is no word of C
 pub name_is_none : (x word : List ℕ) → is_name x ≡ true → list_any (bytes_eq word) words_of_c ≡ true → bytes_eq x word ≡ false
 name_is_none x word e there = false_from_ne_true (bytes_eq x word) (λ k.
     both_ways (list_any (bytes_eq x) words_of_c) (not-true (list_any (bytes_eq x) words_of_c) (and_parts _ _ e).1) (ap (λ (y : List ℕ). list_any (bytes_eq y) words_of_c) (same x word k) ∙ there))
-
--- pieces in what a list of phrases is written as
-pub flat_pieces : {X : Type 0} (f : X → List (List ℕ)) (q : X → Bool) → ((x : X) → q x ≡ true → list_all is_piece (f x) ≡ true)
-    → (xs : List X) → list_all q xs ≡ true → list_all is_piece (flat_map f xs) ≡ true
-flat_pieces f q each [] all = refl
-flat_pieces f q each (x ∷ xs) all =
-    let both = and_parts (q x) (list_all q xs) all in
-    list_all-append is_piece (f x) (flat_map f xs) ∙ and_from (list_all is_piece (f x)) (list_all is_piece (flat_map f xs)) (each x both.0) (flat_pieces f q each xs both.1)

@@ -1,20 +1,16 @@
--- The three forms, as relations on the bytes of a file.
-use Rattle.std.specs.Prelude.{◌≡◌, ℕ, Bool, true, false, ◌+◌, ◌&&◌, ◌≤◌, nat_le, not, bytes_eq, List, [], ◌∷◌, ◌++◌, map, length, codes, if◌then◌else◌, Option, Some, None}
+-- The three forms, as relations on the tokens of a file.
+use Rattle.std.specs.Prelude.{◌≡◌, ℕ, Bool, true, false, ◌&&◌, ◌≤◌, nat_le, not, bytes_eq, List, [], ◌∷◌, ◌++◌, map, codes, if◌then◌else◌, Option, Some, None}
 use Rattle.std.specs.Fmt.{decimal}
 use Rattle.std.specs.List.{list_any, list_all, flat_map}
 use Rattle.floyd_text.specs.declared.refusal.Rule.TheVariants.{Forward, Cancel}
 use Rattle.floyd_text.specs.declared.refusal.Rule.{Rule}
 use Rattle.floyd_text.specs.declared.place.Place.{Place}
-use Rattle.floyd_text.specs.Place.{place_at}
+use Rattle.floyd_lex.specs.Classes.{is_letter, is_word}
+use Rattle.floyd_lex.specs.Token.{Token}
 use Rattle.floyd_first.specs.declared.form.Set.{Set}
 use Rattle.floyd_first.specs.declared.form.Main.{Main}
 use Rattle.floyd_first.specs.declared.form.Entry.{Entry}
 use Rattle.floyd_first.specs.declared.form.Script.{Script}
-use Rattle.floyd_first.specs.Spaced.{Token, Spaced, is_letter, is_word_byte}
-
--- no file has more tokens
-abbrev pub max_tokens : ℕ
-max_tokens = 1000000
 
 -- the words that are no names in C: those of its grammar, of the types of integers, and of what is left out
 abbrev pub words_of_c : List (List ℕ)
@@ -29,11 +25,15 @@ words_of_c =
 -- letters, digits and `_`, no digit first
 abbrev pub is_identifier : List ℕ → Bool
 is_identifier [] = false
-is_identifier (b ∷ bs) = is_letter b && list_all is_word_byte bs
+is_identifier (b ∷ bs) = is_letter b && list_all is_word bs
 
 -- a name of a variable
 abbrev pub is_name : List ℕ → Bool
-is_name text = is_identifier text && nat_le (length text) 255 && not (list_any (bytes_eq text) words_of_c)
+is_name text = is_identifier text && not (list_any (bytes_eq text) words_of_c)
+
+-- the texts of tokens
+abbrev pub texts : List Token → List (List ℕ)
+texts ts = map (λ (t : Token). t.text) ts
 
 -- `int x ;`
 abbrev pub declaration : List ℕ → List (List ℕ)
@@ -43,7 +43,7 @@ declaration name = codes "int" ∷ name ∷ codes ";" ∷ []
 abbrev pub assignment : Set → List (List ℕ)
 assignment s = s.name ∷ codes "=" ∷ decimal s.value ∷ codes ";" ∷ []
 
--- the tokens of `int main ( void ) { .. return x ; }`
+-- the texts of `int main ( void ) { .. return x ; }`
 abbrev pub main_texts : Main → List (List ℕ)
 main_texts m =
     (codes "int" ∷ codes "main" ∷ codes "(" ∷ codes "void" ∷ codes ")" ∷ codes "{" ∷ [])
@@ -64,45 +64,42 @@ is_well_formed m =
     && list_any (λ (s : Set). bytes_eq s.name m.returned) m.sets
     && list_all (λ (s : Set). nat_le s.value 2147483647) m.sets
 
--- the bytes are the source of this `main`
-abbrev pub IsMain : List ℕ → Main → Type 0
-IsMain bytes m =
-    (ts : List Token) × Spaced 0 ts bytes × (map (λ (t : Token). t.text) ts ≡ main_texts m) × (length ts ≤ max_tokens)
-    × (is_well_formed m ≡ true)
+-- the tokens are the source of this `main`
+abbrev pub IsMain : List Token → Main → Type 0
+IsMain ts m = (texts ts ≡ main_texts m) × (is_well_formed m ≡ true)
 
--- the tokens of `DECLARE main PRE [] MAIN_PRE POST [int] PROP () RETURN (Vint(n)) SEP ();`
+-- the texts of `DECLARE main PRE [] MAIN_PRE POST [int] PROP () RETURN (Vint(n)) SEP ();`
 abbrev pub spec_texts : ℕ → List (List ℕ)
 spec_texts n =
     (codes "DECLARE" ∷ codes "main" ∷ codes "PRE" ∷ codes "[" ∷ codes "]" ∷ codes "MAIN_PRE" ∷ codes "POST" ∷ codes "[" ∷ codes "int"
     ∷ codes "]" ∷ codes "PROP" ∷ codes "(" ∷ codes ")" ∷ codes "RETURN" ∷ codes "(" ∷ codes "Vint" ∷ codes "(" ∷ [])
     ++ decimal n ∷ codes ")" ∷ codes ")" ∷ codes "SEP" ∷ codes "(" ∷ codes ")" ∷ codes ";" ∷ []
 
--- the bytes are the specification that says that `main` returns this number
-abbrev pub IsSpec : List ℕ → ℕ → Type 0
-IsSpec bytes n =
-    (ts : List Token) × Spaced 0 ts bytes × (map (λ (t : Token). t.text) ts ≡ spec_texts n) × (n ≤ 2147483647)
+-- the tokens are the specification that says that `main` returns this number
+abbrev pub IsSpec : List Token → ℕ → Type 0
+IsSpec ts n = (texts ts ≡ spec_texts n) × (n ≤ 2147483647)
 
 -- the command of this word
 abbrev pub rule_of : List ℕ → Option Rule
 rule_of word =
     if bytes_eq word (codes "forward") then Some Forward else (if bytes_eq word (codes "cancel") then Some Cancel else None)
 
--- The tokens are these commands, each with its `;`, and then `QED` at this place.
-abbrev pub AreCommands : ℕ → List ℕ → List Token → List Entry → Place → Type 0
-AreCommands file bytes [] entries end = ⊥
-AreCommands file bytes (q ∷ ts) [] end = (ts ≡ []) × (q.text ≡ codes "QED") × (end ≡ place_at file bytes q.at)
-AreCommands file bytes (c ∷ []) (e ∷ es) end = ⊥
-AreCommands file bytes (c ∷ s ∷ ts) (e ∷ es) end =
-    (rule_of c.text ≡ Some e.rule) × (e.place ≡ place_at file bytes c.at) × (s.text ≡ codes ";")
-    × AreCommands file bytes ts es end
+-- The tokens are these commands at their places, each with its `;`, and then `QED` at this place.
+abbrev pub AreCommands : List Token → List Entry → Place → Type 0
+AreCommands [] entries end = ⊥
+AreCommands (q ∷ ts) [] end = (ts ≡ []) × (q.text ≡ codes "QED") × (end ≡ q.place)
+AreCommands (c ∷ []) (e ∷ es) end = ⊥
+AreCommands (c ∷ s ∷ ts) (e ∷ es) end =
+    (rule_of c.text ≡ Some e.rule) × (e.place ≡ c.place) × (s.text ≡ codes ";") × AreCommands ts es end
 
--- the bytes of the file of this number are this script: `PROOF main`, its commands, `QED`
-abbrev pub IsScript : ℕ → List ℕ → Script → Type 0
-IsScript file bytes script =
-    (proof name : Token) × (ts : List Token) × Spaced 0 (proof ∷ name ∷ ts) bytes × (length ts + 2 ≤ max_tokens)
-    × (proof.text ≡ codes "PROOF") × (name.text ≡ codes "main") × AreCommands file bytes ts script.commands script.end
+-- the tokens are this script: `PROOF main`, its commands, `QED`
+abbrev pub IsScript : List Token → Script → Type 0
+IsScript [] script = ⊥
+IsScript (proof ∷ []) script = ⊥
+IsScript (proof ∷ name ∷ ts) script =
+    (proof.text ≡ codes "PROOF") × (name.text ≡ codes "main") × AreCommands ts script.commands script.end
 
--- what the bytes read as: what the relation holds of, or none where it holds of nothing
+-- what tokens read as: what the relation holds of, or none where it holds of nothing
 abbrev pub ReadsAs : {X : Type 0} → (X → Type 0) → Option X → Type 0
 ReadsAs R (Some x) = R x
 ReadsAs {X} R None = (x : X) → R x → ⊥

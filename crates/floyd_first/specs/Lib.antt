@@ -1,4 +1,3 @@
-pub mod Cut
 pub mod Forms
+pub mod Left
 pub mod Reading
-pub mod Spaced

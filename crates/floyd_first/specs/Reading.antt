@@ -1,16 +1,14 @@
--- What the texts of the three forms read as, one after the other.
-use Rattle.std.specs.Prelude.{ℕ, Bool, true, false, ◌+◌, min, ◌==◌, ◌&&◌, not, nat_le, bytes_eq, if◌then◌else◌, List, [], ◌∷◌, ◌++◌, Option, Some, None, codes}
+-- What the tokens of the three forms read as, one after the other.
+use Rattle.std.specs.Prelude.{ℕ, Bool, true, false, ◌==◌, ◌&&◌, not, nat_le, bytes_eq, if◌then◌else◌, List, [], ◌∷◌, ◌++◌, Option, Some, None, codes}
 use Rattle.std.specs.List.{list_any, list_all}
 use Rattle.std.specs.Option.{option_map}
 use Rattle.std.specs.Str.Parse.{digits_value}
 use Rattle.floyd_text.specs.declared.refusal.Rule.{Rule}
-use Rattle.floyd_text.specs.declared.place.Place.{Place}
-use Rattle.floyd_text.specs.Place.{place_at}
+use Rattle.floyd_lex.specs.Token.{Token}
 use Rattle.floyd_first.specs.declared.form.Set.{Set}
 use Rattle.floyd_first.specs.declared.form.Main.{Main}
 use Rattle.floyd_first.specs.declared.form.Entry.{Entry}
 use Rattle.floyd_first.specs.declared.form.Script.{Script}
-use Rattle.floyd_first.specs.Spaced.{Token, is_digit}
 use Rattle.floyd_first.specs.Forms.{is_name, rule_of}
 
 -- what follows these texts
@@ -18,6 +16,9 @@ abbrev pub after_all : List (List ℕ) → List (List ℕ) → Option (List (Lis
 after_all [] ts = Some ts
 after_all (w ∷ ws) [] = None
 after_all (w ∷ ws) (t ∷ ts) = if bytes_eq t w then after_all ws ts else None
+
+abbrev pub is_digit : ℕ → Bool
+is_digit b = nat_le 48 b && nat_le b 57
 
 -- digits, of which the first is no 0 unless it stands alone
 abbrev pub is_numeral : List ℕ → Bool
@@ -112,21 +113,13 @@ abbrev pub command_of : List ℕ → List ℕ → Option Rule
 command_of word semicolon = if bytes_eq semicolon (codes ";") then rule_of word else None
 
 -- the script whose commands go on so
-abbrev pub commands_of : ℕ → List ℕ → List Entry → List Token → Option Script
-commands_of file bytes entries [] = None
-commands_of file bytes entries (q ∷ []) =
-    if bytes_eq q.text (codes "QED") then Some (record { commands = entries; end = place_at file bytes q.at }) else None
-commands_of file bytes entries (c ∷ s ∷ ts) =
-    with_rule (λ r. commands_of file bytes (entries ++ record { rule = r; place = place_at file bytes c.at } ∷ []) ts) (command_of c.text s.text)
+abbrev pub commands_of : List Entry → List Token → Option Script
+commands_of entries [] = None
+commands_of entries (q ∷ []) = if bytes_eq q.text (codes "QED") then Some (record { commands = entries; end = q.place }) else None
+commands_of entries (c ∷ s ∷ ts) =
+    with_rule (λ r. commands_of (entries ++ record { rule = r; place = c.place } ∷ []) ts) (command_of c.text s.text)
 
-abbrev pub script_of : ℕ → List ℕ → List Token → Option Script
-script_of file bytes (proof ∷ name ∷ ts) =
-    if bytes_eq proof.text (codes "PROOF") && bytes_eq name.text (codes "main") then commands_of file bytes [] ts else None
-script_of file bytes short = None
-
--- the place behind a byte that stands at this place
-abbrev pub next_place : Place → ℕ → Place
-next_place p b =
-    if b == 10
-    then record { file = p.file; line = min (p.line + 1) 4294967295; column = 1 }
-    else record { file = p.file; line = p.line; column = min (p.column + 1) 4294967295 }
+abbrev pub script_of : List Token → Option Script
+script_of (proof ∷ name ∷ ts) =
+    if bytes_eq proof.text (codes "PROOF") && bytes_eq name.text (codes "main") then commands_of [] ts else None
+script_of short = None

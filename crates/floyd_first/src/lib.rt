@@ -3,11 +3,10 @@
 #![tactic(auto)]
 
 mod form;
-mod places;
+mod left;
 mod scripts;
 mod sources;
 mod specifications;
-mod token;
 mod word;
 
 pub use form::{Entry, Main, NameList, Script, Set};

@@ -1,41 +1,17 @@
 //! The script of a proof of `main`.
-ghost use Rattle.std.specs.Prelude.{◌≡◌, ℕ, ◌+◌, ◌<◌, ◌≤◌, [], ◌∷◌, List, length, drop, bytes_eq, codes, if◌then◌else◌, Some, None, IfOk, IfSome, MatchOption};
+ghost use Rattle.std.specs.Prelude.{◌≡◌, [], List, bytes_eq, codes, if◌then◌else◌, Some, None, IfOk};
+ghost use Rattle.floyd_lex.specs.Token.{Token, tokens_in};
 ghost use Rattle.floyd_first.specs.declared.form.Script.{Script};
-ghost use Rattle.floyd_first.specs.Cut.{cut};
 ghost use Rattle.floyd_first.specs.Forms.{IsScript, ReadsAs, rule_of};
+ghost use Rattle.floyd_first.specs.Left.{left};
 ghost use Rattle.floyd_first.specs.Reading.{command_of, commands_of, script_of};
 
 use crate::form::{Entry, Script};
-use crate::places::moved;
-use crate::token::first_token;
-use crate::word::is_too_long;
-use floyd_text::{Place, Rule, place_of};
+use crate::left::{Left, all_of, first_token, placed_token};
+use floyd_lex::Tokens;
+use floyd_text::{Place, Rule};
 use sqlite_items::Items;
 use std::alloc::{AllocError, Global};
-
-/// A token: where it begins, its text, and where it ends.
-#[derive(Clone, Copy)]
-struct Found<'a> {
-    at: usize,
-    text: &'a [u8],
-    end: usize,
-}
-
-/// The first token from an offset on.
-fn next_token(bytes: &[u8], at: usize) -> Option<Found<'_>>
-    requires { at ≤ length bytes.now }
-    ensures tokens { MatchOption result (cut at (drop at bytes.now) ≡ []) (λ t.
-        cut at (drop at bytes.now) ≡ record { at = t.at; text = t.text.now } ∷ cut t.end (drop t.end bytes.now)) }
-    ensures moves { IfSome result (λ t. (at ≤ t.at) × (t.at < t.end) × (t.end ≤ length bytes.now)) }
-{
-    let piece = first_token(&bytes[at..])?;
-    let begin = at + piece.gap;
-    Some(Found {
-        at: begin,
-        text: piece.text,
-        end: begin + piece.text.len(),
-    })
-}
 
 fn rule_of(word: &[u8]) -> Option<Rule>
     ensures { result ≡ rule_of word.now }
@@ -71,69 +47,60 @@ fn ended(commands: Items<Entry>, word: &[u8], end: Place) -> Option<Script>
     }
 }
 
-/// The script whose commands begin at this offset.
-fn commands_from(
-    alloc: Global,
-    file: u32,
-    bytes: &[u8],
-    start: usize,
-) -> Result<Option<Script>, AllocError>
-    requires { start ≤ length bytes.now }
-    ensures { IfOk result (λ s. s ≡ commands_of file bytes.now [] (cut start (drop start bytes.now))) }
+/// The script of which the tokens are its commands and its end.
+fn commands_from(alloc: Global, tokens: Left<'_>) -> Result<Option<Script>, AllocError>
+    ensures { IfOk result (λ s. s ≡ commands_of [] (left tokens.entry)) }
 {
     let mut commands = Items::new(alloc);
-    let mut at = start;
-    let mut seen = start;
-    let mut place = place_of(file, bytes, start);
-    'commands: while let Some(word) = next_token(bytes, at) {
-        place = moved(place, bytes, seen, word.at);
-        seen = word.at;
-        let semicolon = match next_token(bytes, word.end) {
+    let mut rest = tokens;
+    'commands: while let Some(word) = placed_token(rest) {
+        let semicolon = match first_token(word.rest) {
             Some(semicolon) => semicolon,
-            None => return Ok(ended(commands, word.text, place)),
+            None => return Ok(ended(commands, word.text, word.place)),
         };
         match command_of(word.text, semicolon.text) {
-            Some(rule) => commands.push(Entry { rule, place })?,
+            Some(rule) => commands.push(Entry {
+                rule,
+                place: word.place,
+            })?,
             None => return Ok(None),
         }
-        at = semicolon.end;
+        rest = semicolon.rest;
     }
     Ok(None)
 }
 
-fn script_of(alloc: Global, file: u32, bytes: &[u8]) -> Result<Option<Script>, AllocError>
-    ensures { IfOk result (λ s. s ≡ script_of file bytes.now (cut 0 bytes.now)) }
+fn script_of(alloc: Global, tokens: Left<'_>) -> Result<Option<Script>, AllocError>
+    ensures { IfOk result (λ s. s ≡ script_of (left tokens.entry)) }
 {
-    let proof = match next_token(bytes, 0) {
+    let proof = match first_token(tokens) {
         Some(proof) => proof,
         None => return Ok(None),
     };
-    let name = match next_token(bytes, proof.end) {
+    let name = match first_token(proof.rest) {
         Some(name) => name,
         None => return Ok(None),
     };
-    if proof.text != b"PROOF".as_slice() {
+    if proof.text != b"PROOF".as_slice() || name.text != b"main".as_slice() {
         return Ok(None);
     }
-    if name.text != b"main".as_slice() {
-        return Ok(None);
-    }
-    commands_from(alloc, file, bytes, name.end)
+    commands_from(alloc, name.rest)
 }
 
-/// Reads the script of the file of this number, and none where the bytes have another form: `PROOF main`, commands of
-/// `forward` and `cancel`, each with its `;`, and `QED`. The form is that of the tactics of the Verifiable C manual.
-pub fn read_script(alloc: Global, file: u32, bytes: &[u8]) -> Result<Option<Script>, AllocError>
-    ensures { IfOk result (ReadsAs (IsScript file bytes.now)) }
+/// Reads the tokens of a script, and none where they have another form: `PROOF main`, commands of `forward` and
+/// `cancel`, each with its `;`, and `QED`. The form is that of the tactics of the Verifiable C manual. The bytes are
+/// those of the tokens' file.
+pub fn read_script(
+    alloc: Global,
+    bytes: &[u8],
+    tokens: &Tokens,
+) -> Result<Option<Script>, AllocError>
+    ensures { IfOk result (ReadsAs (IsScript (tokens_in bytes.now tokens.now))) }
 {
-    if is_too_long(bytes) {
-        Ok(None)
-    } else {
-        script_of(alloc, file, bytes)
-    }
+    script_of(alloc, all_of(bytes, tokens))
 }
 
-/// Bytes are one script of a file at most.
+/// Tokens are one script at most.
 pub fn one_script()
-    ensures { (file : ℕ) (bytes : List ℕ) (s t : Script) → IsScript file bytes s → IsScript file bytes t → s ≡ t }
+    ensures { (ts : List Token) (s t : Script) → IsScript ts s → IsScript ts t → s ≡ t }
 {}

@@ -1,15 +1,17 @@
 //! The source of a `main` of the first form.
-ghost use Rattle.std.specs.Prelude.{◌≡◌, ℕ, ◌<◌, ◌++◌, ◌∷◌, [], List, true, length, bytes_eq, codes, ◌&&◌, ◌||◌, IsTrue, IfOk, IfSome, OnOk, MatchOption};
+ghost use Rattle.std.specs.Prelude.{◌≡◌, ◌<◌, ◌++◌, ◌∷◌, [], List, length, bytes_eq, codes, ◌&&◌, IsTrue, IfOk, MatchOption};
 ghost use Rattle.std.specs.List.{list_any};
 ghost use Rattle.floyd_first.specs.declared.form.Set.{Set};
 ghost use Rattle.floyd_first.specs.declared.form.Main.{Main};
-ghost use Rattle.floyd_first.specs.Cut.{texts};
-ghost use Rattle.floyd_first.specs.Forms.{IsMain, ReadsAs};
+ghost use Rattle.floyd_lex.specs.Token.{Token, tokens_in};
+ghost use Rattle.floyd_first.specs.Forms.{IsMain, ReadsAs, texts};
+ghost use Rattle.floyd_first.specs.Left.{left};
 ghost use Rattle.floyd_first.specs.Reading.{can_declare, is_nil, set_of, ending, sets_from, main_from, main_of};
 
 use crate::form::{Main, NameList, Set};
-use crate::token::first_token;
-use crate::word::{after_all, int_of, is_name, is_too_long};
+use crate::left::{Left, all_of, first_token};
+use crate::word::{after_all, int_of, is_name};
+use floyd_lex::Tokens;
 use floyd_text::Name;
 use indexmap::IndexSet;
 use sqlite_items::Items;
@@ -23,7 +25,7 @@ struct Three<'a> {
     first: &'a [u8],
     second: &'a [u8],
     third: &'a [u8],
-    rest: &'a [u8],
+    rest: Left<'a>,
 }
 
 /// Four tokens and what follows them: as many as an assignment and the end have.
@@ -33,15 +35,14 @@ struct Four<'a> {
     second: &'a [u8],
     third: &'a [u8],
     fourth: &'a [u8],
-    rest: &'a [u8],
+    rest: Left<'a>,
 }
 
-fn three_tokens(bytes: &[u8]) -> Option<Three<'_>>
-    ensures texts { MatchOption result (length (texts bytes.now) < 3)
-        (λ t. texts bytes.now ≡ t.first.now ∷ t.second.now ∷ t.third.now ∷ texts t.rest.now) }
-    ensures shorter { IfSome result (λ t. length t.rest.now < length bytes.now) }
+fn three_tokens(tokens: Left<'_>) -> Option<Three<'_>>
+    ensures { MatchOption result (length (texts (left tokens.entry)) < 3)
+        (λ t. texts (left tokens.entry) ≡ t.first.now ∷ t.second.now ∷ t.third.now ∷ texts (left t.rest)) }
 {
-    let first = first_token(bytes)?;
+    let first = first_token(tokens)?;
     let second = first_token(first.rest)?;
     let third = first_token(second.rest)?;
     Some(Three {
@@ -52,12 +53,11 @@ fn three_tokens(bytes: &[u8]) -> Option<Three<'_>>
     })
 }
 
-fn four_tokens(bytes: &[u8]) -> Option<Four<'_>>
-    ensures texts { MatchOption result (length (texts bytes.now) < 4)
-        (λ t. texts bytes.now ≡ t.first.now ∷ t.second.now ∷ t.third.now ∷ t.fourth.now ∷ texts t.rest.now) }
-    ensures shorter { IfSome result (λ t. length t.rest.now < length bytes.now) }
+fn four_tokens(tokens: Left<'_>) -> Option<Four<'_>>
+    ensures { MatchOption result (length (texts (left tokens.entry)) < 4)
+        (λ t. texts (left tokens.entry) ≡ t.first.now ∷ t.second.now ∷ t.third.now ∷ t.fourth.now ∷ texts (left t.rest)) }
 {
-    let three = three_tokens(bytes)?;
+    let three = three_tokens(tokens)?;
     let fourth = first_token(three.rest)?;
     Some(Four {
         first: three.first,
@@ -126,7 +126,7 @@ fn ending(
     four: Four<'_>,
 ) -> Result<Option<Main>, AllocError>
     ensures { IfOk result (λ m. m ≡ ending declared.now.keys sets four.entry.second.now
-        (bytes_eq four.entry.third.now (codes ";") && bytes_eq four.entry.fourth.now (codes "}") && is_nil (texts four.entry.rest.now))) }
+        (bytes_eq four.entry.third.now (codes ";") && bytes_eq four.entry.fourth.now (codes "}") && is_nil (texts (left four.entry.rest)))) }
 {
     if four.third != b";".as_slice()
         || four.fourth != b"}".as_slice()
@@ -144,16 +144,16 @@ fn ending(
     }))
 }
 
-/// The `main` of which these variables are declared and the bytes are what follows.
+/// The `main` of which these variables are declared and the tokens are what follows.
 fn sets_from(
     alloc: Global,
     declared: &IndexSet<Name>,
-    bytes: &[u8],
+    tokens: Left<'_>,
 ) -> Result<Option<Main>, AllocError>
-    ensures { IfOk result (λ m. m ≡ sets_from declared.now.keys [] (texts bytes.now)) }
+    ensures { IfOk result (λ m. m ≡ sets_from declared.now.keys [] (texts (left tokens.entry))) }
 {
     let mut sets = Items::new(alloc);
-    let mut rest = bytes;
+    let mut rest = tokens;
     'sets: while let Some(four) = four_tokens(rest) {
         if four.first == b"return".as_slice() {
             return ending(alloc, declared, sets, four);
@@ -167,12 +167,12 @@ fn sets_from(
     Ok(None)
 }
 
-/// The `main` of which the bytes are what follows its `{`.
-fn main_from(alloc: Global, bytes: &[u8]) -> Result<Option<Main>, AllocError>
-    ensures { IfOk result (λ m. m ≡ main_from [] (texts bytes.now)) }
+/// The `main` of which the tokens are what follows its `{`.
+fn main_from(alloc: Global, tokens: Left<'_>) -> Result<Option<Main>, AllocError>
+    ensures { IfOk result (λ m. m ≡ main_from [] (texts (left tokens.entry))) }
 {
     let mut declared = IndexSet::new(alloc);
-    let mut rest = bytes;
+    let mut rest = tokens;
     'declarations: while let Some(three) = three_tokens(rest) {
         if three.first != b"int".as_slice() {
             return sets_from(alloc, &declared, rest);
@@ -188,29 +188,25 @@ fn main_from(alloc: Global, bytes: &[u8]) -> Result<Option<Main>, AllocError>
     Ok(None)
 }
 
-fn main_of(alloc: Global, bytes: &[u8]) -> Result<Option<Main>, AllocError>
-    ensures { IfOk result (λ m. m ≡ main_of (texts bytes.now)) }
+fn main_of(alloc: Global, tokens: Left<'_>) -> Result<Option<Main>, AllocError>
+    ensures { IfOk result (λ m. m ≡ main_of (texts (left tokens.entry))) }
 {
-    match after_all(bytes, HEAD.as_slice()) {
+    match after_all(tokens, HEAD.as_slice()) {
         Some(rest) => main_from(alloc, rest),
         None => Ok(None),
     }
 }
 
-/// Reads a source that is a `main` of the first form, and none where the bytes have another form: declarations of int
-/// variables, each once and of a name that is no word of C, assignments of decimal ints to them, and the return of one
-/// that is assigned. The rules are those of C, as far as the form goes.
-pub fn read_main(alloc: Global, bytes: &[u8]) -> Result<Option<Main>, AllocError>
-    ensures { IfOk result (ReadsAs (IsMain bytes.now)) }
+/// Reads the tokens of a source that is a `main` of the first form, and none where they have another form: declarations
+/// of int variables, each once and of a name that is no word of C, assignments of decimal ints to them, and the return
+/// of one that is assigned. The rules are those of C, as far as the form goes. The bytes are those of the tokens' file.
+pub fn read_main(alloc: Global, bytes: &[u8], tokens: &Tokens) -> Result<Option<Main>, AllocError>
+    ensures { IfOk result (ReadsAs (IsMain (tokens_in bytes.now tokens.now))) }
 {
-    if is_too_long(bytes) {
-        Ok(None)
-    } else {
-        main_of(alloc, bytes)
-    }
+    main_of(alloc, all_of(bytes, tokens))
 }
 
-/// Bytes are the source of one `main` at most.
+/// Tokens are the source of one `main` at most.
 pub fn one_main()
-    ensures { (bytes : List ℕ) (m n : Main) → IsMain bytes m → IsMain bytes n → m ≡ n }
+    ensures { (ts : List Token) (m n : Main) → IsMain ts m → IsMain ts n → m ≡ n }
 {}

@@ -1,11 +1,13 @@
 //! The specification of a `main` of the first form.
 ghost use Rattle.std.specs.Prelude.{◌≡◌, ℕ, List, IfOk};
-ghost use Rattle.floyd_first.specs.Cut.{texts};
-ghost use Rattle.floyd_first.specs.Forms.{IsSpec, ReadsAs};
+ghost use Rattle.floyd_lex.specs.Token.{Token, tokens_in};
+ghost use Rattle.floyd_first.specs.Forms.{IsSpec, ReadsAs, texts};
+ghost use Rattle.floyd_first.specs.Left.{left};
 ghost use Rattle.floyd_first.specs.Reading.{spec_of};
 
-use crate::token::first_token;
+use crate::left::{Left, all_of, first_token};
 use crate::word::{after_all, int_of};
+use floyd_lex::Tokens;
 use std::alloc::{AllocError, Global};
 
 const HEAD: [&[u8]; 17] = [
@@ -30,18 +32,18 @@ const HEAD: [&[u8]; 17] = [
 
 const END: [&[u8]; 6] = [b")", b")", b"SEP", b"(", b")", b";"];
 
-/// Reads a specification file that says of `main` alone that it returns this number, and none where the bytes have
-/// another form.
-pub fn read_spec(_alloc: Global, bytes: &[u8]) -> Result<Option<u32>, AllocError>
-    ensures { IfOk result (ReadsAs (IsSpec bytes.now)) }
+/// Reads the tokens of a specification file that says of `main` alone that it returns this number, and none where they
+/// have another form. The bytes are those of the tokens' file.
+pub fn read_spec(_alloc: Global, bytes: &[u8], tokens: &Tokens) -> Result<Option<u32>, AllocError>
+    ensures { IfOk result (ReadsAs (IsSpec (tokens_in bytes.now tokens.now))) }
 {
-    Ok(number_of(bytes))
+    Ok(number_of(all_of(bytes, tokens)))
 }
 
-fn number_of(bytes: &[u8]) -> Option<u32>
-    ensures { result ≡ spec_of (texts bytes.now) }
+fn number_of(tokens: Left<'_>) -> Option<u32>
+    ensures { result ≡ spec_of (texts (left tokens.entry)) }
 {
-    let number = first_token(after_all(bytes, HEAD.as_slice())?)?;
+    let number = first_token(after_all(tokens, HEAD.as_slice())?)?;
     let end = after_all(number.rest, END.as_slice())?;
     match first_token(end) {
         None => int_of(number.text),
@@ -49,7 +51,7 @@ fn number_of(bytes: &[u8]) -> Option<u32>
     }
 }
 
-/// Bytes are the specification of one number at most.
+/// Tokens are the specification of one number at most.
 pub fn one_spec()
-    ensures { (bytes : List ℕ) (m n : ℕ) → IsSpec bytes m → IsSpec bytes n → m ≡ n }
+    ensures { (ts : List Token) (m n : ℕ) → IsSpec ts m → IsSpec ts n → m ≡ n }
 {}

@@ -1,17 +1,14 @@
 //! Texts that are expected, names and numerals.
-ghost use Rattle.std.specs.Prelude.{◌≡◌, ◌*◌, map, bytes_eq, nat_lt, length, option_copied, IsTrue};
+ghost use Rattle.std.specs.Prelude.{◌≡◌, map, bytes_eq, IsTrue};
 ghost use Rattle.std.specs.List.{list_any, list_all};
 ghost use Rattle.std.specs.Option.{option_map};
 ghost use Rattle.std.specs.Str.Parse.{digits_value};
-ghost use Rattle.floyd_first.specs.Spaced.{is_digit, is_word_byte};
-ghost use Rattle.floyd_first.specs.Cut.{texts};
-ghost use Rattle.floyd_first.specs.Forms.{is_identifier, is_name, words_of_c, max_tokens};
-ghost use Rattle.floyd_first.specs.Reading.{after_all, is_numeral, small, int_of};
+ghost use Rattle.floyd_lex.specs.Classes.{is_letter, is_word};
+ghost use Rattle.floyd_first.specs.Forms.{is_identifier, is_name, texts, words_of_c};
+ghost use Rattle.floyd_first.specs.Left.{left};
+ghost use Rattle.floyd_first.specs.Reading.{after_all, is_digit, is_numeral, small, int_of};
 
-use crate::token::{first_token, is_digit, is_letter, is_word_byte};
-
-/// No file has more tokens.
-const MAX_TOKENS: usize = 1000000;
+use crate::left::{Left, first_token};
 
 /// The words that are no names in C.
 const WORDS_OF_C: [&[u8]; 35] = [
@@ -52,34 +49,18 @@ const WORDS_OF_C: [&[u8]; 35] = [
     b"default",
 ];
 
-/// Whether there are more tokens than any file has.
-pub fn is_too_long(bytes: &[u8]) -> bool
-    ensures { result ≡ nat_lt max_tokens (length (texts bytes.now)) }
+/// What follows these texts, none where the tokens begin with other ones.
+pub fn after_all<'a>(tokens: Left<'a>, words: &[&[u8]]) -> Option<Left<'a>>
+    ensures { option_map (λ l. texts (left l)) result ≡ after_all (map (λ w. w.now) words.now) (texts (left tokens.entry)) }
 {
-    let mut rest = bytes;
-    let mut count = 0;
-    'tokens: while let Some(piece) = first_token(rest) {
-        if count == MAX_TOKENS {
-            return true;
-        }
-        count += 1;
-        rest = piece.rest;
-    }
-    false
-}
-
-/// What follows these texts, none where the bytes begin with other ones.
-pub fn after_all<'a>(bytes: &'a [u8], words: &[&[u8]]) -> Option<&'a [u8]>
-    ensures { option_map texts (option_copied result) ≡ after_all (map (λ w. w.now) words.now) (texts bytes.now) }
-{
-    let mut rest = bytes;
+    let mut rest = tokens;
     'words: for word in words {
         match first_token(rest) {
-            Some(piece) => {
-                if piece.text != *word {
+            Some(first) => {
+                if first.text != *word {
                     return None;
                 }
-                rest = piece.rest;
+                rest = first.rest;
             }
             None => return None,
         }
@@ -99,17 +80,29 @@ fn is_word_of_c(text: &[u8]) -> bool
     is_among(text, WORDS_OF_C.as_slice())
 }
 
-fn are_word_bytes(bytes: &[u8]) -> bool
-    ensures { result ≡ list_all is_word_byte bytes.now }
+fn is_letter(b: u8) -> bool
+    ensures { result ≡ is_letter b }
 {
-    bytes.iter().all(|b| is_word_byte(*b))
+    b.is_ascii_alphabetic() || b == b'_'
+}
+
+fn is_word(b: u8) -> bool
+    ensures { result ≡ is_word b }
+{
+    is_letter(b) || b.is_ascii_digit()
+}
+
+fn are_of_words(bytes: &[u8]) -> bool
+    ensures { result ≡ list_all is_word bytes.now }
+{
+    bytes.iter().all(|b| is_word(*b))
 }
 
 fn is_identifier(text: &[u8]) -> bool
     ensures { result ≡ is_identifier text.now }
 {
     match text {
-        [b, rest @ ..] => is_letter(*b) && are_word_bytes(rest),
+        [b, rest @ ..] => is_letter(*b) && are_of_words(rest),
         [] => false,
     }
 }
@@ -117,7 +110,13 @@ fn is_identifier(text: &[u8]) -> bool
 pub fn is_name(text: &[u8]) -> bool
     ensures { result ≡ is_name text.now }
 {
-    is_identifier(text) && text.len() <= 255 && !is_word_of_c(text)
+    is_identifier(text) && !is_word_of_c(text)
+}
+
+fn is_digit(b: u8) -> bool
+    ensures { result ≡ is_digit b }
+{
+    matches!(b, b'0'..=b'9')
 }
 
 fn are_digits(bytes: &[u8]) -> bool

@@ -25,7 +25,7 @@ struct Case {
     text: &'static str,
 }
 
-static CASES: [Case; 29] = [
+static CASES: [Case; 38] = [
     Case {
         project: PROJECT,
         source: SOURCE,
@@ -133,10 +133,73 @@ static CASES: [Case; 29] = [
     },
     Case {
         project: PROJECT,
-        source: "int main(void){int x; /* c */ x=1; return x;}",
+        source: "# 1 \"one.c\"\nint main(void){int x; /* c */ x=1; return x;} // end\n",
         spec: SPEC,
         script: SCRIPT,
+        text: "proved main\naccepted\n",
+    },
+    Case {
+        project: PROJECT,
+        source: SOURCE,
+        spec: "// of main\nDECLARE main PRE [] MAIN_PRE POST [int] PROP () RETURN (Vint(/* one */1)) SEP ();",
+        script: SCRIPT,
+        text: "proved main\naccepted\n",
+    },
+    Case {
+        project: PROJECT,
+        source: SOURCE,
+        spec: SPEC,
+        script: "PROOF main // first\nforward;\n/* then */ forward; cancel;\ncancel;\nQED\n",
+        text: "one.fp:4:1: 611 NoGoal in cancel\n",
+    },
+    Case {
+        project: PROJECT,
+        source: SOURCE,
+        spec: SPEC,
+        script: "/* of main */PROOF main\nforward;forward;// both\ncancel;\nQED//",
+        text: "proved main\naccepted\n",
+    },
+    Case {
+        project: PROJECT,
+        source: SOURCE,
+        spec: SPEC,
+        script: "PROOF main\nforward;\n $\nQED\n",
+        text: "one.fp:3:2: 201 BadByte\n",
+    },
+    Case {
+        project: PROJECT,
+        source: "int main(void){int x; /* x=1; return x;}\n",
+        spec: SPEC,
+        script: SCRIPT,
+        text: "one.c:1:23: 202 OpenComment\n",
+    },
+    Case {
+        project: PROJECT,
+        source: SOURCE,
+        spec: "DECLARE main PRE [] MAIN_PRE POST [int] PROP () RETURN (Vint(1x)) SEP ();",
+        script: SCRIPT,
+        text: "one.fs:1:62: 203 BadNumber\n",
+    },
+    Case {
+        project: PROJECT,
+        source: "int main(void){int aaaaaaaaaaaaaaaaaaaaaaaaaaaaaaaaaaaaaaaaaaaaaaaaaaaaaaaaaaaaaaaaaaaaaaaaaaaaaaaaaaaaaaaaaaaaaaaaaaaaaaaaaaaaaaaaaaaaaaaaaaaaaaaaaaaaaaaaaaaaaaaaaaaaaaaaaaaaaaaaaaaaaaaaaaaaaaaaaaaaaaaaaaaaaaaaaaaaaaaaaaaaaaaaaaaaaaaaaaaaaaaaaaaaaaaaaaaaaaaaaaaaaaaaaaaaaaaa; x=1; return x;}\n",
+        spec: SPEC,
+        script: SCRIPT,
+        text: "one.c:1:20: 205 LongName\n",
+    },
+    Case {
+        project: PROJECT,
+        source: "int main(void){int x; x=1; return 1;}\n",
+        spec: "$",
+        script: SCRIPT,
         text: "one.c:1:1: 199 NotBuilt\n",
+    },
+    Case {
+        project: PROJECT,
+        source: SOURCE,
+        spec: "",
+        script: "$",
+        text: "one.fs:1:1: 199 NotBuilt\n",
     },
     Case {
         project: PROJECT,

@@ -7,11 +7,16 @@ use Rattle.floyd_check.proofs.Checking.{all_files, checks_files, checks_project}
 use Rattle.floyd_check.proofs.OneModule.{three_files}
 use Rattle.floyd_check.proofs.check.check_bytes.Goals as goal
 
-pub check_files-requires : goal.check_files-requires
-check_files-requires c =
+pub check_files-requires-clause-len : goal.check_files-requires-clause-len
+check_files-requires-clause-len c =
     let split : c.args.files.now ≡ c.in-Some.bytes.now ∷ c.in-Some.files.now = sym c.as_slice.ensures ∙ c.in-Some.ensures.cases.0 in
     three_files c.in-Some.bytes.now c.in_ok-modules_of.field-0 c.in-Some.files.now (ap modules_of (sym c.as_slice-2.ensures) ∙ c.in_ok-modules_of.ensures.exact)
-    (all_files c.args.files.now c.in-Some.bytes.now c.in-Some.files.now c.requires split)
+    (all_files c.args.files.now c.in-Some.bytes.now c.in-Some.files.now c.requires split).0
+
+pub check_files-requires-clause-small : goal.check_files-requires-clause-small
+check_files-requires-clause-small c =
+    let split : c.args.files.now ≡ c.in-Some.bytes.now ∷ c.in-Some.files.now = sym c.as_slice.ensures ∙ c.in-Some.ensures.cases.0 in
+    (all_files c.args.files.now c.in-Some.bytes.now c.in-Some.files.now c.requires split).1.files_small
 
 pub returns-in_err-modules_of : goal.returns-in_err-modules_of
 returns-in_err-modules_of c =

@@ -13,4 +13,4 @@ returns c =
     subst (λ (p : List ℕ). ChecksModule p c.as_slice-2.result.now c.as_slice-3.result.now r) c.as_slice.ensures c.check_module.ensures in
     let two : ChecksModule source spec c.as_slice-3.result.now r = subst (λ (p : List ℕ). ChecksModule source p c.as_slice-3.result.now r) c.as_slice-2.ensures one in
     let all : ChecksModule source spec script r = subst (λ (p : List ℕ). ChecksModule source spec p r) c.as_slice-3.ensures two in
-    three_in_order c.args.files.now source spec script r c.requires c.index-files-0.is c.index-files-1.is c.index-files-2.is all
+    three_in_order c.args.files.now source spec script r c.requires.len c.index-files-0.is c.index-files-1.is c.index-files-2.is all

@@ -1,4 +1,8 @@
-use Rattle.std.proofs.Common.{◌≡◌, ◌+◌, List, [], ◌∷◌, ◌++◌, ℕ, Option, sym, ◌∙◌, subst, refl, arith, ap, Ok, Err, drop, get_or, length, length-append}
+use Rattle.std.proofs.Common.{◌≡◌, ◌+◌, ◌≤◌, List, [], ◌∷◌, ◌++◌, ℕ, Option, sym, ◌∙◌, subst, refl, arith, ap, Ok, Err, drop, get_or, length, length-append}
+use Rattle.std.specs.Prelude.{All}
+use Rattle.std.specs.List.{sum_by}
+use Rattle.std.proofs.lemmas.List.Elements.{All-nil, All-push}
+use Rattle.std.proofs.lemmas.List.Sums.{sum_by_push}
 use Rattle.floyd_text.specs.Outside.{Files}
 use Rattle.std.proofs.lemmas.Result.{err_from_is_err_and}
 use Rattle.floyd_cli.specs.Loads.{ReadsNext, HasNext}
@@ -10,6 +14,8 @@ file-init g c = record {
   held = refl;
   later = omega arith;
   small = omega arith;
+  each = subst (All (λ bytes. length bytes ≤ 4194304)) (sym c.new-files.ensures) (All-nil (λ bytes. length bytes ≤ 4194304));
+  sum = ap (sum_by length) c.new-files.ensures;
   len = ap length c.new-files.ensures;
   named = c.requires;
   leads = subst (λ (before : List (List ℕ)). Leads (g.H.Shelf.held c.args.shelf.now) c.args.project.now c.args.named.now before 0 c.args.named.now)
@@ -45,6 +51,8 @@ file-preserved g c =
       held = c.in_ok-bytes.ensures.held ∙ c.file.invariant.held;
       later = omega (arith, c.file.invariant.later, c.in_ok-bytes.ensures.later);
       small = omega (arith, c.len.ensures, c.in_ok-bytes.ensures.within);
+      each = subst (All (λ b. length b ≤ 4194304)) (sym c.in_ok-push.ensures.ok) (All-push (λ b. length b ≤ 4194304) c.file.files bytes c.file.invariant.each c.in_ok-bytes.ensures.small);
+      sum = ap (sum_by length) c.in_ok-push.ensures.ok ∙ sum_by_push length c.file.files bytes ∙ omega (arith, c.file.invariant.sum, c.len.ensures);
       len = ap length c.in_ok-push.ensures.ok ∙ length-append c.file.files (bytes ∷ []) ∙ ap (λ n. n + 1) c.file.invariant.len;
       named = named_more_at named c.file.file-index file c.file-test.true c.file.invariant.named;
       leads = subst (λ (before : List (List ℕ)). Leads held project named before (total + c.len.result) rest) (sym c.in_ok-push.ensures.ok)

@@ -1,4 +1,4 @@
-use Rattle.std.proofs.Common.{List, ℕ, map, subst}
+use Rattle.std.proofs.Common.{map, subst}
 use Rattle.std.specs.String.{string_bytes}
 use Rattle.floyd_text.specs.Outside.{Rose}
 use Rattle.floyd_cli.specs.Causes.{Causes}

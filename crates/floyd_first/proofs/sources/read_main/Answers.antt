@@ -1,19 +1,16 @@
-use Rattle.std.proofs.Common.{◌≡◌, Option, length, subst, sym}
-use Rattle.std.proofs.lemmas.Bool.{ltb-true, ltb-false}
+use Rattle.std.proofs.Common.{◌≡◌, List, Option, subst, sym, ap, ◌∙◌}
 use Rattle.std.proofs.lemmas.Result.{IfOk-weaker}
+use Rattle.floyd_lex.specs.Token.{Token, tokens_in}
 use Rattle.floyd_first.specs.declared.form.Main.{Main}
-use Rattle.floyd_first.specs.Cut.{texts}
-use Rattle.floyd_first.specs.Forms.{ReadsAs, IsMain, max_tokens}
+use Rattle.floyd_first.specs.Forms.{ReadsAs, IsMain, texts}
+use Rattle.floyd_first.specs.Left.{left}
 use Rattle.floyd_first.specs.Reading.{main_of}
-use Rattle.floyd_first.proofs.MainForm.{main_reads, main_too_long}
+use Rattle.floyd_first.proofs.MainForm.{main_reads}
 use Rattle.floyd_first.proofs.sources.read_main.Goals as goal
 
-pub returns-then-is_too_long : goal.returns-then-is_too_long
-returns-then-is_too_long c = main_too_long c.args.bytes.now (ltb-true max_tokens (length (texts c.args.bytes.now)) (sym c.if-is_too_long.ensures))
-
-pub returns-else-is_too_long : goal.returns-else-is_too_long
-returns-else-is_too_long c =
-    let bytes = c.args.bytes.now in
-    IfOk-weaker c.main_of.result (λ (m : Option Main). m ≡ main_of (texts bytes)) (ReadsAs (IsMain bytes))
-    (λ m e. subst (ReadsAs (IsMain bytes)) (sym e) (main_reads bytes (ltb-false max_tokens (length (texts bytes)) (sym c.if-is_too_long.ensures))))
+pub returns : goal.returns
+returns c =
+    let ts = tokens_in c.args.bytes.now c.args.tokens.now in
+    IfOk-weaker c.main_of.result (λ (m : Option Main). m ≡ main_of (texts (left c.all_of.result))) (ReadsAs (IsMain ts))
+    (λ m e. subst (ReadsAs (IsMain ts)) (sym (e ∙ ap (λ (l : List Token). main_of (texts l)) c.all_of.ensures)) (main_reads ts))
     c.main_of.ensures

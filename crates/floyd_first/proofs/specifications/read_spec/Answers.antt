@@ -1,8 +1,12 @@
-use Rattle.std.proofs.Common.{Option, subst, sym}
-use Rattle.std.proofs.Common.{ℕ}
-use Rattle.floyd_first.specs.Forms.{ReadsAs, IsSpec}
+use Rattle.std.proofs.Common.{◌≡◌, ℕ, List, Option, subst, sym, ap, ◌∙◌}
+use Rattle.floyd_lex.specs.Token.{Token, tokens_in}
+use Rattle.floyd_first.specs.Forms.{ReadsAs, IsSpec, texts}
+use Rattle.floyd_first.specs.Reading.{spec_of}
 use Rattle.floyd_first.proofs.SpecForm.{spec_reads}
 use Rattle.floyd_first.proofs.specifications.read_spec.Goals as goal
 
 pub returns : goal.returns
-returns c = subst (λ (o : Option ℕ). ReadsAs (IsSpec c.args.bytes.now) o) (sym c.number_of.ensures) (spec_reads c.args.bytes.now)
+returns c =
+    let ts = tokens_in c.args.bytes.now c.args.tokens.now in
+    let is : c.number_of.result ≡ spec_of (texts ts) = c.number_of.ensures ∙ ap (λ (l : List Token). spec_of (texts l)) c.all_of.ensures in
+    subst (λ (o : Option ℕ). ReadsAs (IsSpec ts) o) (sym is) (spec_reads ts)

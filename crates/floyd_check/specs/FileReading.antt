@@ -1,0 +1,34 @@
+-- What a file reads as, or its first refusal.
+use Rattle.std.specs.Prelude.{◌≡◌, ℕ, List, None, Result, Ok, Err}
+use Rattle.floyd_text.specs.declared.refusal.Refusal.{Refusal}
+use Rattle.floyd_text.specs.Place.{first_place}
+use Rattle.floyd_lex.specs.declared.kinds.FileKind.{FileKind}
+use Rattle.floyd_lex.specs.Cuts.{IsCut}
+use Rattle.floyd_lex.specs.Token.{Token, tokens_in}
+use Rattle.floyd_first.specs.Forms.{ReadsAs}
+use Rattle.floyd_check.specs.Loading.{refused}
+
+-- what comes after what was had, and the refusal where it was not had
+abbrev pub Follows : {X Y : Type 0} → (X → Result Y Refusal → Type 0) → Result X Refusal → Result Y Refusal → Type 0
+Follows Next (Ok x) v = Next x v
+Follows Next (Err r) v = v ≡ Err r
+
+-- First something is had or refused, and then what comes next is had or refused.
+pub record Then {X Y : Type 0} (First : Result X Refusal → Type 0) (Next : X → Result Y Refusal → Type 0) (v : Result Y Refusal) : Type 0 where
+  pub first : Result X Refusal
+  pub is_first : First first
+  pub next : Follows Next first v
+
+-- a file of a form that is not built
+abbrev pub not_built : ℕ → Refusal
+not_built file = refused 199 (first_place file)
+
+-- what the tokens of a file of this number read as, or that they have no form that is built
+abbrev pub ReadsTokens : {X : Type 0} → (List Token → X → Type 0) → ℕ → List Token → Result X Refusal → Type 0
+ReadsTokens Form file ts (Ok x) = Form ts x
+ReadsTokens Form file ts (Err r) = ReadsAs (Form ts) None × (r ≡ not_built file)
+
+-- A file of this kind and number is cut into tokens, and then they are read.
+abbrev pub ReadsFile : {X : Type 0} → (List Token → X → Type 0) → FileKind → ℕ → List ℕ → Result X Refusal → Type 0
+ReadsFile Form kind file bytes =
+    Then (IsCut kind file bytes) (λ list. ReadsTokens Form file (tokens_in bytes list))
