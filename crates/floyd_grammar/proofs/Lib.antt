@@ -1,0 +1,9 @@
+pub mod Exact
+pub mod Seq
+pub mod Either
+pub mod Wider
+pub mod Repeat
+pub mod Lists
+pub mod Whole
+pub mod Turns
+pub mod OneFault

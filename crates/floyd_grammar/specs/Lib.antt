@@ -1,0 +1,4 @@
+pub mod Phrase
+pub mod Parse
+pub mod Refused
+pub mod Gives
