@@ -1,0 +1,268 @@
+//! Readers of declarations and sources.
+ghost use Rattle.std.specs.Prelude.{◌≡◌, ◌≤◌, IfOk, pred, suc, OnOk, []};
+ghost use Rattle.floyd_grammar.specs.Gives.{Gives};
+ghost use Rattle.floyd_cparse.specs.Statements as s;
+ghost use Rattle.floyd_cparse.specs.StatementReading.{statements, block_items};
+ghost use Rattle.floyd_cparse.specs.Units as u;
+ghost use Rattle.floyd_cparse.specs.UnitReading as r;
+ghost use Rattle.floyd_cparse.specs.Scope.{typedefs_in, external_in};
+
+use crate::declarations::{
+    CUnit, Declaration, External, FunctionDefinition, InitDeclarator, Typedef,
+};
+use crate::names::TypeNames;
+use crate::read_initialisers::read_init;
+use crate::read_statements::read_block_items;
+use crate::read_types::{read_dtor, read_specs};
+use crate::sight::Reader;
+use crate::take_units::LIMIT;
+use crate::values::{
+    Declarators, Declared, GlobalEnd, Globals, ReadDeclarator, ReadGlobal, ReadSpecifiers,
+};
+use floyd_grammar::Stop;
+use floyd_lex::{Keyword, Punctuator};
+use floyd_text::Name;
+use sqlite_items::Items;
+use std::alloc::{AllocError, Global};
+
+/// All declarations of a source.
+#[tactic(auto, unfolding(crate::specs::UnitReading::unit, crate::specs::UnitReading::externals))]
+pub(crate) fn read_unit(alloc: Global, reader: &mut Reader<'_>) -> Result<CUnit, Stop>
+    ensures { Gives result reader.new (r.unit reader.old) }
+{
+    let mut types = TypeNames::new(alloc);
+    let mut externals = Items::new(alloc);
+    'each: while reader.leads_any() {
+        let next = read_external(alloc, reader, &mut types)?;
+        externals.push(next)?;
+    }
+    Ok(CUnit { externals })
+}
+
+/// A declaration, a typedef, whose names are in scope behind it, or a function.
+#[tactic(auto, unfolding(crate::specs::UnitReading::external))]
+fn read_external(
+    alloc: Global,
+    reader: &mut Reader<'_>,
+    types: &mut TypeNames,
+) -> Result<External, Stop>
+    ensures { Gives (external_in types.new result) reader.new (r.external types.old reader.old) }
+{
+    if reader.leads_word(Keyword::Typedef) {
+        return read_typedef(alloc, reader, types);
+    }
+    if reader.leads_word(Keyword::Extern) {
+        reader.take_extern()?;
+        return read_specified(alloc, reader, types, true);
+    }
+    read_specified(alloc, reader, types, false)
+}
+
+/// `"typedef" specs dtor {"," dtor} ";"`
+#[tactic(auto, unfolding(crate::specs::UnitReading::typedef, crate::specs::UnitReading::typedefs_of, crate::specs::Units::limit))]
+fn read_typedef(
+    alloc: Global,
+    reader: &mut Reader<'_>,
+    types: &mut TypeNames,
+) -> Result<External, Stop>
+    ensures { Gives (external_in types.new result) reader.new (r.typedef types.old reader.old) }
+{
+    reader.take_typedef()?;
+    let specifiers = read_specs(alloc, reader, types, LIMIT + 1, 0)?;
+    let all = read_typedefs(alloc, reader, types)?;
+    reader.take_typedefs_end(types, all.end)?;
+    Ok(External::Typedef(Typedef {
+        specifiers: specifiers.tree,
+        declarators: all.items,
+    }))
+}
+
+/// `dtor {"," dtor}`, whose names are in scope behind them.
+#[tactic(auto, unfolding(crate::specs::UnitReading::typedefs, crate::specs::Units::limit))]
+fn read_typedefs(
+    alloc: Global,
+    reader: &mut Reader<'_>,
+    types: &mut TypeNames,
+) -> Result<Declarators, Stop>
+    ensures { Gives (typedefs_in types.new result) reader.new (r.typedefs types.old reader.old) }
+{
+    let first = read_dtor(alloc, reader, types, Declared::Type, LIMIT + 1, 0)?;
+    add_name(alloc, types, first.name)?;
+    let mut items = Items::new(alloc);
+    items.push(first.tree)?;
+    let mut end = first.end;
+    'each: while reader.leads_mark(Punctuator::Comma) {
+        let next = read_next_typedef(alloc, reader, types)?;
+        add_name(alloc, types, next.name)?;
+        items.push(next.tree)?;
+        end = next.end;
+    }
+    Ok(Declarators { items, end })
+}
+
+#[tactic(auto, unfolding(crate::specs::Units::limit))]
+fn read_next_typedef(
+    alloc: Global,
+    reader: &mut Reader<'_>,
+    types: &TypeNames,
+) -> Result<ReadDeclarator, Stop>
+    ensures { Gives result reader.new (r.next_typedef types.now reader.old) }
+{
+    reader.take_comma()?;
+    read_dtor(alloc, reader, types, Declared::Type, LIMIT + 1, 0)
+}
+
+fn add_name(alloc: Global, types: &mut TypeNames, name: Option<Name>) -> Result<(), AllocError>
+    ensures { OnOk result (types.new ≡ u.with_name name types.old) }
+{
+    match name {
+        Some(name) => types.add(alloc, name.as_slice()),
+        None => Ok(()),
+    }
+}
+
+/// `specs [..] ";"` and `specs dtor block`
+#[tactic(auto, unfolding(crate::specs::UnitReading::specified, crate::specs::UnitReading::declared, crate::specs::UnitReading::none_declared, crate::specs::Units::limit))]
+fn read_specified(
+    alloc: Global,
+    reader: &mut Reader<'_>,
+    types: &TypeNames,
+    external: bool,
+) -> Result<External, Stop>
+    ensures { Gives (external_in types.now result) reader.new (r.specified types.now external reader.old) }
+{
+    let specifiers = read_specs(alloc, reader, types, LIMIT + 1, 0)?;
+    if !reader.leads_mark(Punctuator::Semicolon) {
+        return read_some_declared(alloc, reader, types, external, specifiers);
+    }
+    reader.take_semicolon_end()?;
+    Ok(External::Declaration(Declaration {
+        external,
+        specifiers: specifiers.tree,
+        declarators: Items::new(alloc),
+    }))
+}
+
+#[tactic(auto, unfolding(crate::specs::UnitReading::some_declared, crate::specs::UnitReading::declared_rest, crate::specs::Units::limit))]
+fn read_some_declared(
+    alloc: Global,
+    reader: &mut Reader<'_>,
+    types: &TypeNames,
+    external: bool,
+    specifiers: ReadSpecifiers,
+) -> Result<External, Stop>
+    ensures { Gives result reader.new (r.some_declared types.now external specifiers reader.old) }
+{
+    let declarator = read_dtor(alloc, reader, types, Declared::Object, LIMIT + 1, 0)?;
+    if reader.leads_body(external) {
+        read_function(alloc, reader, types, external, specifiers, declarator)
+    } else {
+        read_declaration(alloc, reader, types, external, specifiers, declarator)
+    }
+}
+
+/// A block behind the declarator.
+#[tactic(auto, unfolding(crate::specs::UnitReading::function, crate::specs::Units::limit))]
+fn read_function(
+    alloc: Global,
+    reader: &mut Reader<'_>,
+    types: &TypeNames,
+    external: bool,
+    specifiers: ReadSpecifiers,
+    declarator: ReadDeclarator,
+) -> Result<External, Stop>
+    ensures { Gives result reader.new (r.function types.now external specifiers declarator reader.old) }
+{
+    reader.take_body(external)?;
+    let body = read_block_items(alloc, reader, types, LIMIT)?;
+    Ok(External::Function(FunctionDefinition {
+        specifiers: specifiers.tree,
+        declarator: declarator.tree,
+        body,
+    }))
+}
+
+/// `["=" init] {"," dtor ["=" init]} ";"` behind the first declarator.
+#[tactic(auto, unfolding(crate::specs::UnitReading::declaration))]
+fn read_declaration(
+    alloc: Global,
+    reader: &mut Reader<'_>,
+    types: &TypeNames,
+    external: bool,
+    specifiers: ReadSpecifiers,
+    declarator: ReadDeclarator,
+) -> Result<External, Stop>
+    ensures { Gives result reader.new (r.declaration types.now external specifiers declarator reader.old) }
+{
+    let all = read_globals(alloc, reader, types, declarator)?;
+    reader.take_globals_end(types, all.end)?;
+    Ok(External::Declaration(Declaration {
+        external,
+        specifiers: specifiers.tree,
+        declarators: all.items,
+    }))
+}
+
+#[tactic(auto, unfolding(crate::specs::UnitReading::globals))]
+fn read_globals(
+    alloc: Global,
+    reader: &mut Reader<'_>,
+    types: &TypeNames,
+    declarator: ReadDeclarator,
+) -> Result<Globals, Stop>
+    ensures { Gives result reader.new (r.globals types.now declarator reader.old) }
+{
+    let first = read_global_rest(alloc, reader, types, declarator)?;
+    let mut items = Items::new(alloc);
+    items.push(first.item)?;
+    let mut end = first.end;
+    'each: while reader.leads_mark(Punctuator::Comma) {
+        let next = read_next_global(alloc, reader, types)?;
+        items.push(next.item)?;
+        end = next.end;
+    }
+    Ok(Globals { items, end })
+}
+
+#[tactic(auto, unfolding(crate::specs::UnitReading::global, crate::specs::Units::limit))]
+fn read_next_global(
+    alloc: Global,
+    reader: &mut Reader<'_>,
+    types: &TypeNames,
+) -> Result<ReadGlobal, Stop>
+    ensures { Gives result reader.new (r.next_global types.now reader.old) }
+{
+    reader.take_comma()?;
+    let declarator = read_dtor(alloc, reader, types, Declared::Object, LIMIT + 1, 0)?;
+    read_global_rest(alloc, reader, types, declarator)
+}
+
+/// `["=" init]` behind a declarator.
+#[tactic(auto, unfolding(crate::specs::UnitReading::global_rest, crate::specs::UnitReading::global_value, crate::specs::Units::limit))]
+fn read_global_rest(
+    alloc: Global,
+    reader: &mut Reader<'_>,
+    types: &TypeNames,
+    declarator: ReadDeclarator,
+) -> Result<ReadGlobal, Stop>
+    ensures { Gives result reader.new (r.global_rest types.now declarator reader.old) }
+{
+    if !reader.leads_mark(Punctuator::Equal) {
+        return Ok(ReadGlobal {
+            item: InitDeclarator {
+                declarator: declarator.tree,
+                initialiser: None,
+            },
+            end: GlobalEnd::Declarator(declarator.end),
+        });
+    }
+    let place = reader.take_equal()?;
+    let value = read_init(alloc, reader, types, LIMIT + 1)?;
+    Ok(ReadGlobal {
+        item: InitDeclarator {
+            declarator: declarator.tree,
+            initialiser: Some((place, value.tree)),
+        },
+        end: GlobalEnd::Value(value.end),
+    })
+}

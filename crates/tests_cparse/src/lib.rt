@@ -1,0 +1,5 @@
+//! Tests of the reader of C.
+#![tactic(auto)]
+
+#[cfg(test)]
+mod parsing;
