@@ -8,9 +8,9 @@ use Rattle.floyd_lex.specs.declared.kinds.FileKind.TheVariants as kind
 use Rattle.floyd_project.specs.declared.module.Module.{Module}
 use Rattle.floyd_first.specs.declared.form.Main.{Main}
 use Rattle.floyd_first.specs.declared.form.Script.{Script}
-use Rattle.floyd_first.specs.Forms.{IsMain, IsSpec, IsScript}
+use Rattle.floyd_first.specs.Forms.{IsSpec, IsScript}
 use Rattle.floyd_goal.specs.Derivation.{main_start, played}
-use Rattle.floyd_check.specs.FileReading.{ReadsFile}
+use Rattle.floyd_check.specs.FileReading.{ReadsFile, ReadsSource}
 use Rattle.floyd_check.specs.Loading.{modules_of}
 use Rattle.floyd_check.specs.declared.check.Accepted.{Accepted}
 use Rattle.floyd_check.specs.Checked.{Answers, program_of, Checks, ChecksModule, ChecksThree}
@@ -18,11 +18,11 @@ use Rattle.floyd_check.specs.Verdict.{Program, Judges, JudgesModules, JudgesFile
 
 module _ (source spec script : List ℕ) where
   -- the source is refused
-  pub source_stops : (halt : Halt) → Answers (ReadsFile IsMain kind.Source 1 source) (Err halt) → ChecksModule source spec script (Err halt)
+  pub source_stops : (halt : Halt) → Answers (ReadsSource source) (Err halt) → ChecksModule source spec script (Err halt)
   source_stops (Refused r) h = record { first = Err r; is_first = h; next = refl }
   source_stops Memory h = tt
 
-  module _ (m : Main) (reads_main : ReadsFile IsMain kind.Source 1 source (Ok m)) where
+  module _ (m : Main) (reads_main : ReadsSource source (Ok m)) where
     -- the specification is
     pub spec_stops : (halt : Halt) → Answers (ReadsFile IsSpec kind.Spec 2 spec) (Err halt) → ChecksModule source spec script (Err halt)
     spec_stops (Refused r) h = record { first = Ok m; is_first = reads_main; next = record { first = Err r; is_first = h; next = refl } }

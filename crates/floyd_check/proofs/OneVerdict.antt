@@ -7,12 +7,14 @@ use Rattle.floyd_lex.specs.declared.kinds.FileKind.TheVariants as kind
 use Rattle.floyd_lex.specs.Cuts.{IsCut}
 use Rattle.floyd_lex.specs.Token.{Token, tokens_in}
 use Rattle.floyd_lex.proofs.OneCut.{same_answer}
+use Rattle.floyd_cparse.specs.Source.{IsRead}
+use Rattle.floyd_cparse.proofs.SourceLemmas as source
 use Rattle.floyd_project.specs.declared.module.Module.{Module}
 use Rattle.floyd_first.specs.Forms.{IsMain, IsSpec, IsScript}
 use Rattle.floyd_first.proofs.MainForm.{same_main}
 use Rattle.floyd_first.proofs.SpecForm.{same_spec}
 use Rattle.floyd_first.proofs.ScriptForm.{same_script}
-use Rattle.floyd_check.specs.FileReading.{Follows, Then, ReadsTokens, ReadsFile}
+use Rattle.floyd_check.specs.FileReading.{Follows, Then, ReadsTokens, ReadsFile, ReadsSource}
 use Rattle.floyd_check.specs.Loading.{modules_of, loaded}
 use Rattle.floyd_check.specs.Verdict.{Program, judged, Judges, JudgesModules, JudgesFiles, JudgesLoaded, IsVerdict}
 
@@ -39,9 +41,15 @@ one_file Form kind file bytes one =
     one_then (IsCut kind file bytes) (λ list. ReadsTokens Form file (tokens_in bytes list)) (same_answer kind file bytes)
     (λ list. one_reading Form file (tokens_in bytes list) (one (tokens_in bytes list)))
 
+one_source : (bytes : List ℕ) → IsOne (ReadsSource bytes)
+one_source bytes =
+    one_then (IsCut kind.Source 1 bytes) _ (same_answer kind.Source 1 bytes)
+    (λ list. one_then (IsRead 1 bytes list) (λ tree. ReadsTokens IsMain 1 (tokens_in bytes list)) (source.one_reading 1 bytes list)
+    (λ tree. one_reading IsMain 1 (tokens_in bytes list) (same_main (tokens_in bytes list))))
+
 one_module : (source spec script : List ℕ) → IsOne (Judges source spec script)
 one_module source spec script =
-    one_then (ReadsFile IsMain kind.Source 1 source) _ (one_file IsMain kind.Source 1 source same_main)
+    one_then (ReadsSource source) _ (one_source source)
     (λ m. one_then (ReadsFile IsSpec kind.Spec 2 spec) _ (one_file IsSpec kind.Spec 2 spec same_spec)
     (λ n. one_then (ReadsFile IsScript kind.Script 3 script) (λ s v. v ≡ judged m n s) (one_file IsScript kind.Script 3 script same_script)
     (λ s v w h k. h ∙ sym k)))

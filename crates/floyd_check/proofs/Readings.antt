@@ -6,9 +6,14 @@ use Rattle.floyd_lex.specs.declared.kinds.FileKind.{FileKind}
 use Rattle.floyd_lex.specs.Cuts as cuts
 use Rattle.floyd_lex.specs.Cuts.{IsCut}
 use Rattle.floyd_lex.specs.Token.{Token, TokenList, tokens_in}
-use Rattle.floyd_first.specs.Forms.{ReadsAs}
+use Rattle.floyd_lex.specs.declared.kinds.FileKind.TheVariants as kinds
+use Rattle.floyd_cparse.specs.declared.declarations.CUnit.{CUnit}
+use Rattle.floyd_cparse.specs.Source as source
+use Rattle.floyd_cparse.specs.Source.{IsRead}
+use Rattle.floyd_first.specs.declared.form.Main.{Main}
+use Rattle.floyd_first.specs.Forms.{ReadsAs, IsMain}
 use Rattle.floyd_check.specs.Checked.{Answers}
-use Rattle.floyd_check.specs.FileReading.{ReadsFile, not_built}
+use Rattle.floyd_check.specs.FileReading.{Then, ReadsFile, ReadsSource, not_built}
 
 module _ {X : Type 0} (Form : List Token → X → Type 0) (kind : FileKind) (file : ℕ) (bytes : List ℕ) where
   -- its tokens are refused
@@ -23,3 +28,24 @@ module _ {X : Type 0} (Form : List Token → X → Type 0) (kind : FileKind) (fi
   -- they have another
   pub reads_none : (list : TokenList) (o : Option X) → IsCut kind file bytes (Ok list) → ReadsAs (Form (tokens_in bytes list)) o → o ≡ None → ReadsFile Form kind file bytes (Err (not_built file))
   reads_none list o cut read e = record { first = Ok list; is_first = cut; next = (subst (ReadsAs (Form (tokens_in bytes list))) e read, refl) }
+
+module _ (bytes : List ℕ) where
+  -- the tokens of a source are refused
+  pub source_not_cut : (halt : Halt) → cuts.Answers (IsCut kinds.Source 1 bytes) (Err halt) → Answers (ReadsSource bytes) (Err halt)
+  source_not_cut (Refused r) h = record { first = Err r; is_first = h; next = refl }
+  source_not_cut Memory h = tt
+
+  module _ (list : TokenList) (cut : IsCut kinds.Source 1 bytes (Ok list)) where
+    -- they do not read
+    pub source_not_read : (halt : Halt) → source.Answers (IsRead 1 bytes list) (Err halt) → Answers (ReadsSource bytes) (Err halt)
+    source_not_read (Refused r) h = record { first = Ok list; is_first = cut; next = record { first = Err r; is_first = h; next = refl } }
+    source_not_read Memory h = tt
+
+    module _ (tree : CUnit) (read : IsRead 1 bytes list (Ok tree)) where
+      pub source_some : (o : Option Main) (m : Main) → ReadsAs (IsMain (tokens_in bytes list)) o → o ≡ Some m → ReadsSource bytes (Ok m)
+      source_some o m h e =
+          record { first = Ok list; is_first = cut; next = record { first = Ok tree; is_first = read; next = subst (ReadsAs (IsMain (tokens_in bytes list))) e h } }
+
+      pub source_none : (o : Option Main) → ReadsAs (IsMain (tokens_in bytes list)) o → o ≡ None → ReadsSource bytes (Err (not_built 1))
+      source_none o h e =
+          record { first = Ok list; is_first = cut; next = record { first = Ok tree; is_first = read; next = (subst (ReadsAs (IsMain (tokens_in bytes list))) e h, refl) } }

@@ -3,9 +3,12 @@ use Rattle.std.specs.Prelude.{◌≡◌, ℕ, List, None, Result, Ok, Err}
 use Rattle.floyd_text.specs.declared.refusal.Refusal.{Refusal}
 use Rattle.floyd_text.specs.Place.{first_place}
 use Rattle.floyd_lex.specs.declared.kinds.FileKind.{FileKind}
+use Rattle.floyd_lex.specs.declared.kinds.FileKind.TheVariants as kind
 use Rattle.floyd_lex.specs.Cuts.{IsCut}
 use Rattle.floyd_lex.specs.Token.{Token, tokens_in}
-use Rattle.floyd_first.specs.Forms.{ReadsAs}
+use Rattle.floyd_cparse.specs.Source.{IsRead}
+use Rattle.floyd_first.specs.declared.form.Main.{Main}
+use Rattle.floyd_first.specs.Forms.{ReadsAs, IsMain}
 use Rattle.floyd_check.specs.Loading.{refused}
 
 -- what comes after what was had, and the refusal where it was not had
@@ -32,3 +35,10 @@ ReadsTokens Form file ts (Err r) = ReadsAs (Form ts) None × (r ≡ not_built fi
 abbrev pub ReadsFile : {X : Type 0} → (List Token → X → Type 0) → FileKind → ℕ → List ℕ → Result X Refusal → Type 0
 ReadsFile Form kind file bytes =
     Then (IsCut kind file bytes) (λ list. ReadsTokens Form file (tokens_in bytes list))
+
+-- A source is cut into tokens, these read as a tree of C, and then they are of a form that is built.
+abbrev pub ReadsSource : List ℕ → Result Main Refusal → Type 0
+ReadsSource bytes =
+    Then (IsCut kind.Source 1 bytes) (λ list.
+    Then (IsRead 1 bytes list) (λ tree.
+    ReadsTokens IsMain 1 (tokens_in bytes list)))

@@ -19,8 +19,8 @@ use Rattle.floyd_first.specs.declared.form.Set.{Set}
 use Rattle.floyd_first.specs.declared.form.Main.{Main}
 use Rattle.floyd_first.specs.declared.form.Entry.{Entry}
 use Rattle.floyd_first.specs.declared.form.Script.{Script}
-use Rattle.floyd_first.specs.Forms.{IsMain, IsSpec, IsScript}
-use Rattle.floyd_check.specs.FileReading.{Then, ReadsFile}
+use Rattle.floyd_first.specs.Forms.{IsSpec, IsScript}
+use Rattle.floyd_check.specs.FileReading.{Then, ReadsFile, ReadsSource}
 use Rattle.floyd_check.specs.Loading.{max_file, max_files, modules_of, loaded}
 
 -- what the files of an accepted project say: what main does, and the number that it returns
@@ -64,7 +64,7 @@ judged m n s =
 -- then the proof is played. The first refusal is the verdict.
 abbrev pub Judges : List ℕ → List ℕ → List ℕ → Result Program Refusal → Type 0
 Judges source spec script =
-    Then (ReadsFile IsMain kind.Source 1 source) (λ m.
+    Then (ReadsSource source) (λ m.
     Then (ReadsFile IsSpec kind.Spec 2 spec) (λ n.
     Then (ReadsFile IsScript kind.Script 3 script) (λ s v. v ≡ judged m n s)))
 

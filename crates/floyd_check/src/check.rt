@@ -85,8 +85,8 @@ fn check_files(alloc: Global, project: &Name, files: &[Bytes]) -> Result<Accepte
 /// Judges the project of that name, whose bytes and files are given within their limits: the project file first, and
 /// then the three files of its module in order. The first refusal in the order of the files is the answer: those of the
 /// project file (103, and 199 for a second module); those of the tokens of a source, a specification or a script (201 to
-/// 205), each followed by 199 where it is not of the form that is built; and those of the proof of `main` (610, 611, and
-/// what its commands refuse).
+/// 205), of a source then those of its grammar (301 to 304), each followed by 199 where it is not of the form that is
+/// built; and those of the proof of `main` (610, 611, and what its commands refuse).
 ///
 /// Where it answers Ok, the program that the files stand for is sound.
 pub fn check_bytes(alloc: Global, project: &Name, files: &FileList) -> Result<Accepted, Halt>

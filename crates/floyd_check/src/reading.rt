@@ -1,13 +1,14 @@
 //! The three files of a module, cut into tokens and read.
 ghost use Rattle.std.specs.Prelude.{◌≡◌, ◌≤◌, length};
 ghost use Rattle.floyd_lex.specs.declared.kinds.FileKind.TheVariants as kind;
-ghost use Rattle.floyd_first.specs.Forms.{IsMain, IsScript, IsSpec};
+ghost use Rattle.floyd_first.specs.Forms.{IsScript, IsSpec};
 ghost use Rattle.floyd_check.specs.Checked.{Answers};
 ghost use Rattle.floyd_check.specs.FileReading as spec;
-ghost use Rattle.floyd_check.specs.FileReading.{ReadsFile};
+ghost use Rattle.floyd_check.specs.FileReading.{ReadsFile, ReadsSource};
 ghost use Rattle.floyd_check.specs.Loading.{max_file};
 
 use crate::modules::{first_place, refused};
+use floyd_cparse::parse;
 use floyd_first::{Main, Script, read_main, read_script, read_spec};
 use floyd_lex::{FileKind, tokens};
 use floyd_text::{Halt, Refusal};
@@ -23,9 +24,10 @@ fn not_built(file: u32) -> Refusal
 /// The `main` that a source is.
 pub(crate) fn source_in(alloc: Global, bytes: &[u8]) -> Result<Main, Halt>
     requires { length bytes.now ≤ max_file }
-    ensures { Answers (ReadsFile IsMain kind.Source 1 bytes.now) result }
+    ensures { Answers (ReadsSource bytes.now) result }
 {
     let list = tokens(alloc, FileKind::Source, 1, bytes)?;
+    parse(alloc, 1, bytes, &list)?;
     match read_main(alloc, bytes, &list)? {
         Some(main) => Ok(main),
         None => Err(Halt::Refused(not_built(1))),

@@ -25,7 +25,7 @@ struct Case {
     text: &'static str,
 }
 
-static CASES: [Case; 38] = [
+static CASES: [Case; 42] = [
     Case {
         project: PROJECT,
         source: SOURCE,
@@ -122,14 +122,42 @@ static CASES: [Case; 38] = [
         source: "int main(void){int case; case=1; return case;}",
         spec: SPEC,
         script: SCRIPT,
-        text: "one.c:1:1: 199 NotBuilt\n",
+        text: "one.c:1:20: 301 Unexpected\n",
     },
     Case {
         project: PROJECT,
         source: "intmain(void){int x; x=1; return x;}",
         spec: SPEC,
         script: SCRIPT,
-        text: "one.c:1:1: 199 NotBuilt\n",
+        text: "one.c:1:1: 301 Unexpected\n",
+    },
+    Case {
+        project: PROJECT,
+        source: "int main(void) { return 1 }",
+        spec: SPEC,
+        script: SCRIPT,
+        text: "one.c:1:27: 301 Unexpected\n",
+    },
+    Case {
+        project: PROJECT,
+        source: "float f;",
+        spec: SPEC,
+        script: SCRIPT,
+        text: "one.c:1:1: 303 OutOfProfile name float\n",
+    },
+    Case {
+        project: PROJECT,
+        source: "typedef int T; int f(int T);",
+        spec: SPEC,
+        script: SCRIPT,
+        text: "one.c:1:26: 304 TypedefShadowed name T\n",
+    },
+    Case {
+        project: PROJECT,
+        source: "int main(void){int x; x=((((((((((((((((((((((((((((((((((((((((((((((((((((((((((((((((((((((((((((((((((((((((((((((((((((((((((((((((((((((((((((((((((((((((((((((((((((((((((((((((((((((((((((((((((((((((((((((((((((((((1)))))))))))))))))))))))))))))))))))))))))))))))))))))))))))))))))))))))))))))))))))))))))))))))))))))))))))))))))))))))))))))))))))))))))))))))))))))))))))))))))))))))))))))))))))))))))))))))))))))))); return x;}",
+        spec: SPEC,
+        script: SCRIPT,
+        text: "one.c:1:224: 302 TooDeep\n",
     },
     Case {
         project: PROJECT,
