@@ -85,7 +85,8 @@ arrays_stay before now grows (Array' p (more_of-CType t end_of-CType) n) l e =
 arrays_stay before now grows (Struct tag) l e = refl
 arrays_stay before now grows (Function' shape ps p r) l e = refl
 
-type_stays : (before now : Structs) → Grows before now → (t : CType) (l : Layout) → layout before t ≡ Some l → type_fits before t ≡ type_fits now t
+-- so does whether a type fits that has a layout
+pub type_stays : (before now : Structs) → Grows before now → (t : CType) (l : Layout) → layout before t ≡ Some l → type_fits before t ≡ type_fits now t
 type_stays before now grows t l e =
     ap (λ b. b && within_limit (layout before t)) (arrays_stay before now grows t l e)
     ∙ ap (λ (o : Option Layout). arrays_fit now t && within_limit o) (e ∙ sym (layouts_stay before now grows t l e))

@@ -6,3 +6,4 @@ pub mod Places
 pub mod Refusals
 pub mod Seen
 pub mod Tables
+pub mod Copies

@@ -12,7 +12,7 @@ use crate::define::DefineStop;
 use crate::field::{Field, FieldList};
 use crate::laid::Laid;
 use crate::layout::Layout;
-use floyd_text::Name;
+use floyd_text::{Name, Shared};
 use indexmap::IndexMap;
 use std::alloc::{AllocError, Global};
 use std::marker::Model;
@@ -20,7 +20,7 @@ use std::marker::Model;
 /// The structs of a program by tag, in the order in which their tags were first seen.
 #[derive(Drop)]
 pub struct StructTable {
-    structs: IndexMap<Name, Option<Laid>>,
+    structs: IndexMap<Name, Option<Shared<Laid>>>,
     alloc: Global,
 }
 
@@ -49,6 +49,16 @@ impl StructTable {
             structs: IndexMap::new(alloc),
             alloc,
         }
+    }
+
+    /// The same table. What is kept of each struct is shared and not copied.
+    pub fn share(&self) -> Result<StructTable, AllocError>
+        ensures { IfOk result (λ t. t ≡ self.now) }
+    {
+        Ok(StructTable {
+            structs: copied(self.alloc, &self.structs)?,
+            alloc: self.alloc,
+        })
     }
 
     /// Does nothing: its clause says what is known of all structs of a table at once.
@@ -91,7 +101,7 @@ impl StructTable {
         ensures none { IfNone result (fields_of self.now tag.now ≡ None) }
     {
         let kept = self.structs.get(tag)?;
-        kept.as_ref()
+        lent(kept)
     }
 
     /// Whether the struct of that tag is complete.
@@ -107,7 +117,7 @@ impl StructTable {
         ensures err { OnErr result (self.new ≡ self.old) }
     {
         if !self.contains(tag) {
-            put(&mut self.structs, tag, None)?;
+            put(self.alloc, &mut self.structs, tag, None)?;
         }
         Ok(())
     }
@@ -146,14 +156,15 @@ impl StructTable {
             layout,
             places,
         };
-        put(&mut self.structs, tag, Some(laid))?;
+        put(self.alloc, &mut self.structs, tag, Some(laid))?;
         Ok(())
     }
 }
 
 /// Keeps this for the tag, which goes last if it is new.
 fn put(
-    structs: &mut IndexMap<Name, Option<Laid>>,
+    alloc: Global,
+    structs: &mut IndexMap<Name, Option<Shared<Laid>>>,
     tag: &Name,
     kept: Option<Laid>,
 ) -> Result<(), AllocError>
@@ -161,6 +172,54 @@ fn put(
     ensures updates { OnOk result (PutsEntry structs.old.entries tag.now kept structs.new.entries) }
     ensures err { OnErr result (structs.new.entries ≡ structs.old.entries) }
 {
+    match kept {
+        Some(laid) => put_shared(structs, tag, Some(Shared::new(alloc, laid)?)),
+        None => put_shared(structs, tag, None),
+    }
+}
+
+/// The same of what is shared.
+fn put_shared(
+    structs: &mut IndexMap<Name, Option<Shared<Laid>>>,
+    tag: &Name,
+    kept: Option<Shared<Laid>>,
+) -> Result<(), AllocError>
+    ensures ok { OnOk result (structs.new.entries ≡ insert_entry bytes_eq structs.old.entries tag.now kept) }
+    ensures updates { OnOk result (PutsEntry structs.old.entries tag.now kept structs.new.entries) }
+    ensures err { OnErr result (structs.new.entries ≡ structs.old.entries) }
+{
     let _before = structs.insert(tag.share()?, kept)?;
     Ok(())
+}
+
+/// The same structs.
+fn copied(
+    alloc: Global,
+    structs: &IndexMap<Name, Option<Shared<Laid>>>,
+) -> Result<IndexMap<Name, Option<Shared<Laid>>>, AllocError>
+    ensures { IfOk result (λ copy. copy.entries ≡ structs.now.entries) }
+{
+    let mut copy = IndexMap::new(alloc);
+    'structs: for (tag, kept) in structs.iter() {
+        put_shared(&mut copy, tag, shared(kept)?)?;
+    }
+    Ok(copy)
+}
+
+fn lent(kept: &Option<Shared<Laid>>) -> Option<&Laid>
+    ensures { option_copied result ≡ kept.now }
+{
+    match kept {
+        Some(laid) => Some(laid.get()),
+        None => None,
+    }
+}
+
+fn shared(kept: &Option<Shared<Laid>>) -> Result<Option<Shared<Laid>>, AllocError>
+    ensures { IfOk result (λ k. k ≡ kept.now) }
+{
+    match kept {
+        Some(laid) => Ok(Some(laid.share()?)),
+        None => Ok(None),
+    }
 }

@@ -10,5 +10,5 @@ returns-in_err-kept-clause-none c =
 
 pub returns-clause-none : goal.returns-clause-none
 returns-clause-none c =
-    subst (λ (structs : Structs). IfNone c.as_ref.result (fields_of structs c.args.tag.now ≡ None)) c.self.view_is
-    (not_kept c.self.inside.structs.entries c.args.tag.now c.as_ref.result c.in_ok-kept.kept.now c.as_ref.ensures.value c.in_ok-kept.ensures.value)
+    subst (λ (structs : Structs). IfNone c.lent.result (fields_of structs c.args.tag.now ≡ None)) c.self.view_is
+    (not_kept c.self.inside.structs.entries c.args.tag.now c.lent.result c.in_ok-kept.kept.now c.lent.ensures c.in_ok-kept.ensures.value)
