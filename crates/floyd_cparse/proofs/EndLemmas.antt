@@ -1,16 +1,12 @@
 -- What is left of the tokens of a source, and the refusal there.
-use Rattle.std.proofs.Common.{◌≡◌, ℕ, zero, suc, ◌+◌, ◌-◌, List, [], ◌∷◌, length, drop, Result, Ok, Err, refl, sym, ◌∙◌, ap, subst}
+use Rattle.std.proofs.Common.{◌≡◌, ℕ, zero, suc, ◌+◌, List, [], ◌∷◌, length, drop, refl, sym, ◌∙◌, ap}
 use Rattle.std.specs.Prelude.{Option, Some, None, slice_get, option_map}
 use Rattle.std.proofs.lemmas.List.{length-map}
 use Rattle.floyd_text.specs.declared.place.Place.{Place}
-use Rattle.floyd_lex.specs.declared.kinds.TokenKind.{TokenKind}
 use Rattle.floyd_lex.specs.Token.{Token, TokenList, Lexeme, text_of, token_of, tokens_in}
-use Rattle.floyd_grammar.specs.declared.stop.Fault.{Fault}
-use Rattle.floyd_grammar.specs.Parse.{ended}
-use Rattle.floyd_cparse.specs.Tokens.{Sight, sights}
-use Rattle.floyd_cparse.specs.Seen.{sights_from}
+use Rattle.floyd_ctokens.specs.Tokens.{Sight, sights}
 use Rattle.floyd_cparse.specs.Source.{tokens_of, code_of, shown_of, refusal, refusal_before, refusal_at}
-use Rattle.floyd_cparse.proofs.SightLemmas.{kind_at, there, from_here, from_end, count_from}
+use Rattle.floyd_ctokens.proofs.SightLemmas.{there}
 
 pub drop_sights : (n : ℕ) (ts : List Token) → drop n (sights ts) ≡ sights (drop n ts)
 drop_sights zero ts = refl
@@ -27,14 +23,6 @@ module _ (bytes : List ℕ) (list : TokenList) where
       count : (ts : List Token) → length (sights ts) ≡ length ts
       count [] = refl
       count (t ∷ ts) = ap suc (count ts)
-
-  -- what is left where some token is
-  pub left_here : {A : Type 0} (at : ℕ) (x : A) → (length list.items - at ≡ 0 → ⊥) → ended x (sights_from bytes list at) ≡ Err record { left = length list.items - at; cause = 0 }
-  left_here {A} at x some = go (kind_at list at) refl
-    where
-      go : (o : Option TokenKind) → kind_at list at ≡ o → ended x (sights_from bytes list at) ≡ Err record { left = length list.items - at; cause = 0 }
-      go None e = absurd (some (sym (count_from bytes list at) ∙ ap length (from_end bytes list at e)))
-      go (Some kind) e = rw (← count_from bytes list at, from_here bytes list at kind e) refl
 
   -- the refusal at a token
   pub refusal_here : (file at cause : ℕ) (text : List ℕ) (place : Place) → option_map (text_of bytes) (slice_get list.items at) ≡ Some text → option_map (λ (x : Lexeme). x.place) (slice_get list.items at) ≡ Some place → refusal (code_of cause) place (shown_of cause text) ≡ refusal_at file bytes (tokens_of bytes list) at cause

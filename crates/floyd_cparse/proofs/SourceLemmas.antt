@@ -1,16 +1,15 @@
 -- What all tokens of a source read as, and what their refusal is.
-use Rattle.std.proofs.Common.{◌≡◌, ℕ, true, List, [], ◌∷◌, ◌++◌, length, drop, Result, Ok, Err, refl, sym, ◌∙◌, ap, subst, arith}
-use Rattle.std.proofs.lemmas.List.{length-map}
+use Rattle.std.proofs.Common.{◌≡◌, ℕ, true, List, Result, Ok, Err, sym, ◌∙◌, ap}
 use Rattle.floyd_text.specs.declared.refusal.Refusal.{Refusal}
-use Rattle.floyd_lex.specs.Token.{Token, TokenList, token_of, tokens_in}
+use Rattle.floyd_lex.specs.Token.{TokenList}
 use Rattle.floyd_grammar.specs.declared.stop.Fault.{Fault}
 use Rattle.floyd_grammar.specs.Parse.{whole}
 use Rattle.floyd_grammar.specs.Refused.{IsRefused}
 use Rattle.floyd_grammar.proofs.OneFault.{one_refusal}
 use Rattle.floyd_grammar.proofs.Whole.{all_found, all_refused, unique, prefix_front}
-use Rattle.floyd_cparse.specs.declared.declarations.CUnit.{CUnit}
-use Rattle.floyd_cparse.specs.Tokens.{Sight, sights}
-use Rattle.floyd_cparse.specs.Source.{tokens_of, refusal_at, refusal_of, IsRead, HasOneReading, BeginningsAreFronts}
+use Rattle.floyd_csyntax.specs.declared.declarations.CUnit.{CUnit}
+use Rattle.floyd_ctokens.specs.Tokens.{Sight}
+use Rattle.floyd_cparse.specs.Source.{tokens_of, refusal_at, IsRead, HasOneReading, BeginningsAreFronts}
 use Rattle.floyd_cparse.specs.UnitReading as r
 use Rattle.floyd_cparse.specs.Units as g
 use Rattle.floyd_cparse.proofs.UnitExact.{unit_exact}

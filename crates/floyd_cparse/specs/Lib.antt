@@ -1,12 +1,4 @@
-pub mod Tokens
-pub mod Types
-pub mod Expressions
-pub mod Statements
 pub mod Units
-pub mod TypeReading
-pub mod ExpressionReading
-pub mod StatementReading
 pub mod UnitReading
 pub mod Source
 pub mod Scope
-pub mod Seen

@@ -4,11 +4,14 @@ ghost use Rattle.floyd_grammar.specs.Gives.{Gives};
 ghost use Rattle.floyd_cparse.specs.Units as u;
 ghost use Rattle.floyd_cparse.specs.UnitReading as r;
 
-use crate::declarations::{Constant, Initialiser};
-use crate::names::TypeNames;
-use crate::sight::Reader;
-use crate::types::{Identifier, Literal};
+use crate::take_units::{
+    leads_last_comma, leads_separator, take_element, take_element_end, take_init, take_last_comma,
+    take_literal, take_name, take_separator, take_values_end,
+};
 use crate::values::{InitialiserStart, Initialisers, ReadInitialiser, ValueEnd};
+use floyd_csyntax::{Constant, Identifier, Initialiser, Literal};
+use floyd_ctokens::{Reader, TypeNames};
+use floyd_ctypenames::take_brace_end;
 use floyd_grammar::Stop;
 use floyd_lex::Punctuator;
 use floyd_text::Place;
@@ -31,7 +34,7 @@ pub(crate) fn read_init(
         return reader.refuse_without_room(0);
     }
     let room = room - 1;
-    match reader.take_init(alloc, types, room)? {
+    match take_init(alloc, reader, types, room)? {
         InitialiserStart::List(place) => {
             let items = read_values(alloc, reader, types, room)?;
             Ok(ReadInitialiser {
@@ -40,11 +43,11 @@ pub(crate) fn read_init(
             })
         }
         InitialiserStart::Minus => {
-            let literal = reader.take_literal(types, room)?;
+            let literal = take_literal(reader, types, room)?;
             Ok(literal_read(true, literal))
         }
         InitialiserStart::Address => {
-            let name = reader.take_name(alloc, types, room)?;
+            let name = take_name(alloc, reader, types, room)?;
             read_address(reader, types, room, name)
         }
         InitialiserStart::Literal(literal) => Ok(literal_read(false, literal)),
@@ -84,7 +87,7 @@ fn read_value_list(
     let mut items = Items::new(alloc);
     items.push(first.tree)?;
     let mut end = first.end;
-    'each: while reader.leads_separator() {
+    'each: while leads_separator(reader) {
         let next = read_next_value(alloc, reader, types, room)?;
         items.push(next.tree)?;
         end = next.end;
@@ -102,7 +105,7 @@ fn read_next_value(
     requires { room ≤ 200 }
     ensures { Gives result reader.new (r.next_value types.now room (r.inits types.now room) reader.old) }
 {
-    reader.take_separator()?;
+    take_separator(reader)?;
     read_init(alloc, reader, types, room)
 }
 
@@ -116,11 +119,11 @@ fn read_list_end(
 ) -> Result<Place, Stop>
     ensures { Gives result reader.new (r.close_list types.now room (r.inits types.now room) end reader.old) }
 {
-    if reader.leads_last_comma() {
-        reader.take_last_comma()?;
-        return reader.take_brace_end();
+    if leads_last_comma(reader) {
+        take_last_comma(reader)?;
+        return take_brace_end(reader);
     }
-    reader.take_values_end(types, room.saturating_sub(1), end)
+    take_values_end(reader, types, room.saturating_sub(1), end)
 }
 
 /// `["[" literal "]"]` behind `&` and a name.
@@ -140,9 +143,9 @@ fn read_address(
         };
         return Ok(constant_read(Constant::Address(name), end));
     }
-    let place = reader.take_element(room)?;
-    let index = reader.take_literal(types, room.saturating_sub(1))?;
-    reader.take_element_end(types, room.saturating_sub(1))?;
+    let place = take_element(reader, room)?;
+    let index = take_literal(reader, types, room.saturating_sub(1))?;
+    take_element_end(reader, types, room.saturating_sub(1))?;
     let element = Constant::Element {
         array: name,
         place,

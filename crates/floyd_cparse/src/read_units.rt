@@ -1,23 +1,24 @@
 //! Readers of declarations and sources.
 ghost use Rattle.std.specs.Prelude.{◌≡◌, ◌≤◌, IfOk, pred, suc, OnOk, []};
 ghost use Rattle.floyd_grammar.specs.Gives.{Gives};
-ghost use Rattle.floyd_cparse.specs.Statements as s;
-ghost use Rattle.floyd_cparse.specs.StatementReading.{statements, block_items};
+ghost use Rattle.floyd_cstatements.specs.Statements as s;
+ghost use Rattle.floyd_cstatements.specs.StatementReading.{statements, block_items};
 ghost use Rattle.floyd_cparse.specs.Units as u;
 ghost use Rattle.floyd_cparse.specs.UnitReading as r;
+ghost use Rattle.floyd_ctokens.specs.Tokens.{with_name};
 ghost use Rattle.floyd_cparse.specs.Scope.{typedefs_in, external_in};
 
-use crate::declarations::{
-    CUnit, Declaration, External, FunctionDefinition, InitDeclarator, Typedef,
-};
-use crate::names::TypeNames;
 use crate::read_initialisers::read_init;
-use crate::read_statements::read_block_items;
-use crate::read_types::{read_dtor, read_specs};
-use crate::sight::Reader;
-use crate::take_units::LIMIT;
-use crate::values::{
-    Declarators, Declared, GlobalEnd, Globals, ReadDeclarator, ReadGlobal, ReadSpecifiers,
+use crate::take_units::{
+    LIMIT, leads_body, take_body, take_extern, take_globals_end, take_semicolon_end, take_typedef,
+    take_typedefs_end,
+};
+use crate::values::{GlobalEnd, Globals, ReadGlobal};
+use floyd_cstatements::{read_block_items, take_equal};
+use floyd_csyntax::{CUnit, Declaration, External, FunctionDefinition, InitDeclarator, Typedef};
+use floyd_ctokens::{Reader, TypeNames};
+use floyd_ctypenames::{
+    Declarators, Declared, ReadDeclarator, ReadSpecifiers, read_dtor, read_specs, take_comma,
 };
 use floyd_grammar::Stop;
 use floyd_lex::{Keyword, Punctuator};
@@ -52,7 +53,7 @@ fn read_external(
         return read_typedef(alloc, reader, types);
     }
     if reader.leads_word(Keyword::Extern) {
-        reader.take_extern()?;
+        take_extern(reader)?;
         return read_specified(alloc, reader, types, true);
     }
     read_specified(alloc, reader, types, false)
@@ -67,10 +68,10 @@ fn read_typedef(
 ) -> Result<External, Stop>
     ensures { Gives (external_in types.new result) reader.new (r.typedef types.old reader.old) }
 {
-    reader.take_typedef()?;
+    take_typedef(reader)?;
     let specifiers = read_specs(alloc, reader, types, LIMIT + 1, 0)?;
     let all = read_typedefs(alloc, reader, types)?;
-    reader.take_typedefs_end(types, all.end)?;
+    take_typedefs_end(reader, types, all.end)?;
     Ok(External::Typedef(Typedef {
         specifiers: specifiers.tree,
         declarators: all.items,
@@ -108,12 +109,12 @@ fn read_next_typedef(
 ) -> Result<ReadDeclarator, Stop>
     ensures { Gives result reader.new (r.next_typedef types.now reader.old) }
 {
-    reader.take_comma()?;
+    take_comma(reader)?;
     read_dtor(alloc, reader, types, Declared::Type, LIMIT + 1, 0)
 }
 
 fn add_name(alloc: Global, types: &mut TypeNames, name: Option<Name>) -> Result<(), AllocError>
-    ensures { OnOk result (types.new ≡ u.with_name name types.old) }
+    ensures { OnOk result (types.new ≡ with_name name types.old) }
 {
     match name {
         Some(name) => types.add(alloc, name.as_slice()),
@@ -135,7 +136,7 @@ fn read_specified(
     if !reader.leads_mark(Punctuator::Semicolon) {
         return read_some_declared(alloc, reader, types, external, specifiers);
     }
-    reader.take_semicolon_end()?;
+    take_semicolon_end(reader)?;
     Ok(External::Declaration(Declaration {
         external,
         specifiers: specifiers.tree,
@@ -154,7 +155,7 @@ fn read_some_declared(
     ensures { Gives result reader.new (r.some_declared types.now external specifiers reader.old) }
 {
     let declarator = read_dtor(alloc, reader, types, Declared::Object, LIMIT + 1, 0)?;
-    if reader.leads_body(external) {
+    if leads_body(reader, external) {
         read_function(alloc, reader, types, external, specifiers, declarator)
     } else {
         read_declaration(alloc, reader, types, external, specifiers, declarator)
@@ -173,7 +174,7 @@ fn read_function(
 ) -> Result<External, Stop>
     ensures { Gives result reader.new (r.function types.now external specifiers declarator reader.old) }
 {
-    reader.take_body(external)?;
+    take_body(reader, external)?;
     let body = read_block_items(alloc, reader, types, LIMIT)?;
     Ok(External::Function(FunctionDefinition {
         specifiers: specifiers.tree,
@@ -195,7 +196,7 @@ fn read_declaration(
     ensures { Gives result reader.new (r.declaration types.now external specifiers declarator reader.old) }
 {
     let all = read_globals(alloc, reader, types, declarator)?;
-    reader.take_globals_end(types, all.end)?;
+    take_globals_end(reader, types, all.end)?;
     Ok(External::Declaration(Declaration {
         external,
         specifiers: specifiers.tree,
@@ -232,7 +233,7 @@ fn read_next_global(
 ) -> Result<ReadGlobal, Stop>
     ensures { Gives result reader.new (r.next_global types.now reader.old) }
 {
-    reader.take_comma()?;
+    take_comma(reader)?;
     let declarator = read_dtor(alloc, reader, types, Declared::Object, LIMIT + 1, 0)?;
     read_global_rest(alloc, reader, types, declarator)
 }
@@ -256,7 +257,7 @@ fn read_global_rest(
             end: GlobalEnd::Declarator(declarator.end),
         });
     }
-    let place = reader.take_equal()?;
+    let place = take_equal(reader)?;
     let value = read_init(alloc, reader, types, LIMIT + 1)?;
     Ok(ReadGlobal {
         item: InitDeclarator {

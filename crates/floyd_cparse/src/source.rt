@@ -4,10 +4,9 @@ ghost use Rattle.floyd_grammar.specs.Parse.{whole};
 ghost use Rattle.floyd_cparse.specs.Source as specs;
 ghost use Rattle.floyd_cparse.specs.UnitReading.{unit};
 
-use crate::declarations::CUnit;
 use crate::read_units::read_unit;
-use crate::sight::Reader;
-use crate::tokens::{LEFT_OUT, SHADOWED, UNEXPECTED};
+use floyd_csyntax::CUnit;
+use floyd_ctokens::{LEFT_OUT, Reader, SHADOWED, UNEXPECTED};
 use floyd_grammar::{Fault, Stop};
 use floyd_lex::Tokens;
 use floyd_text::{Halt, Name, Place, Refusal, Rule, Shown, place_of};

@@ -1,16 +1,15 @@
 //! Tokens of declarations, as the reader takes them.
 ghost use Rattle.std.specs.Prelude.{◌≡◌, ◌<◌, ◌^◌, IfOk, []};
-ghost use Rattle.floyd_cparse.specs.Statements as s;
+ghost use Rattle.floyd_cstatements.specs.Statements as s;
 ghost use Rattle.floyd_cparse.specs.Units as u;
 ghost use Rattle.floyd_cparse.specs.UnitReading as r;
 ghost use Rattle.floyd_grammar.specs.Parse.{leads, one};
 ghost use Rattle.floyd_grammar.specs.Gives.{Gives};
 
-use crate::names::TypeNames;
-use crate::sight::{Reader, Sight};
-use crate::tokens::{UNEXPECTED, closing};
-use crate::types::{Identifier, Literal};
-use crate::values::{DeclaratorEnd, Declared, GlobalEnd, InitialiserStart, ValueEnd};
+use crate::values::{GlobalEnd, InitialiserStart, ValueEnd};
+use floyd_csyntax::{Identifier, Literal};
+use floyd_ctokens::{Reader, Sight, TypeNames, UNEXPECTED, closing};
+use floyd_ctypenames::{DeclaratorEnd, Declared, after_declarator};
 use floyd_grammar::Stop;
 use floyd_lex::{Keyword, Punctuator};
 use floyd_text::Place;
@@ -19,78 +18,85 @@ use std::alloc::{AllocError, Global};
 /// How deep a token may stand.
 pub(crate) const LIMIT: u32 = 200;
 
-impl<'a> Sight<'a> {
-    fn initialiser_start(
-        &self,
-        alloc: Global,
-        types: &TypeNames,
-    ) -> Result<Option<InitialiserStart>, AllocError>
-        ensures { IfOk result (λ x. x ≡ u.start_of_init types.now self.now) }
-    {
-        if self.is_mark(Punctuator::OpenBrace) {
-            Ok(Some(InitialiserStart::List(self.place())))
-        } else if self.is_mark(Punctuator::Minus) {
-            Ok(Some(InitialiserStart::Minus))
-        } else if self.is_mark(Punctuator::Ampersand) {
-            Ok(Some(InitialiserStart::Address))
-        } else if self.is_plain(types) {
-            Ok(Some(InitialiserStart::Name(self.identifier(alloc)?)))
-        } else {
-            Ok(literal_start(self.literal()))
-        }
+fn initialiser_start(
+    alloc: Global,
+    sight: &Sight<'_>,
+    types: &TypeNames,
+) -> Result<Option<InitialiserStart>, AllocError>
+    ensures { IfOk result (λ x. x ≡ u.start_of_init types.now sight.now) }
+{
+    if sight.is_mark(Punctuator::OpenBrace) {
+        Ok(Some(InitialiserStart::List(sight.place())))
+    } else if sight.is_mark(Punctuator::Minus) {
+        Ok(Some(InitialiserStart::Minus))
+    } else if sight.is_mark(Punctuator::Ampersand) {
+        Ok(Some(InitialiserStart::Address))
+    } else if sight.is_plain(types) {
+        Ok(Some(InitialiserStart::Name(sight.identifier(alloc)?)))
+    } else {
+        Ok(literal_start(sight.literal()))
     }
+}
 
-    fn plain_name(&self, alloc: Global, types: &TypeNames) -> Result<Option<Identifier>, AllocError>
-        ensures { IfOk result (λ x. x ≡ u.plain_name types.now self.now) }
-    {
-        if self.is_plain(types) {
-            Ok(Some(self.identifier(alloc)?))
-        } else {
-            Ok(None)
-        }
+fn plain_name(
+    alloc: Global,
+    sight: &Sight<'_>,
+    types: &TypeNames,
+) -> Result<Option<Identifier>, AllocError>
+    ensures { IfOk result (λ x. x ≡ u.plain_name types.now sight.now) }
+{
+    if sight.is_plain(types) {
+        Ok(Some(sight.identifier(alloc)?))
+    } else {
+        Ok(None)
     }
+}
 
-    /// A `,` before `}`, which ends a list.
-    fn is_last_comma(&self) -> bool
-        ensures { result ≡ u.is_last_comma self.now }
-    {
-        self.is_mark(Punctuator::Comma) && self.precedes(Punctuator::CloseBrace)
+/// A `,` before `}`, which ends a list.
+fn is_last_comma(sight: &Sight<'_>) -> bool
+    ensures { result ≡ u.is_last_comma sight.now }
+{
+    sight.is_mark(Punctuator::Comma) && sight.precedes(Punctuator::CloseBrace)
+}
+
+fn separates_values(sight: &Sight<'_>) -> bool
+    ensures { result ≡ u.is_separator sight.now }
+{
+    sight.is_mark(Punctuator::Comma) && !sight.precedes(Punctuator::CloseBrace)
+}
+
+/// For what it is refused directly behind initial data that ends so.
+fn after_value(sight: &Sight<'_>, types: &TypeNames, room: u32, end: ValueEnd) -> u8
+    ensures { result ≡ u.after_value types.now room end sight.now }
+{
+    if sight.is_mark(Punctuator::Comma) || (end.address && sight.is_mark(Punctuator::OpenBracket)) {
+        UNEXPECTED
+    } else {
+        sight.blame(types, room, end.count as u64, UNEXPECTED)
     }
+}
 
-    fn separates_values(&self) -> bool
-        ensures { result ≡ u.is_separator self.now }
-    {
-        self.is_mark(Punctuator::Comma) && !self.precedes(Punctuator::CloseBrace)
-    }
-
-    /// For what it is refused directly behind initial data that ends so.
-    fn after_value(&self, types: &TypeNames, room: u32, end: ValueEnd) -> u8
-        ensures { result ≡ u.after_value types.now room end self.now }
-    {
-        if self.is_mark(Punctuator::Comma)
-            || (end.address && self.is_mark(Punctuator::OpenBracket))
-        {
-            UNEXPECTED
-        } else {
-            self.blame(types, room, end.count as u64, UNEXPECTED)
-        }
-    }
-
-    /// For what it is refused directly behind a declarator with or without initial data.
-    #[tactic(auto, unfolding(crate::specs::Units::limit))]
-    fn after_global(&self, types: &TypeNames, end: GlobalEnd) -> u8
-        ensures { result ≡ u.after_global types.now end self.now }
-    {
-        match end {
-            GlobalEnd::Declarator(declarator) => {
-                if self.is_mark(Punctuator::Comma) || self.is_mark(Punctuator::Equal) {
-                    UNEXPECTED
-                } else {
-                    self.after_declarator(types, Declared::Object, LIMIT, declarator, UNEXPECTED)
-                }
+/// For what it is refused directly behind a declarator with or without initial data.
+#[tactic(auto, unfolding(crate::specs::Units::limit))]
+fn after_global(sight: &Sight<'_>, types: &TypeNames, end: GlobalEnd) -> u8
+    ensures { result ≡ u.after_global types.now end sight.now }
+{
+    match end {
+        GlobalEnd::Declarator(declarator) => {
+            if sight.is_mark(Punctuator::Comma) || sight.is_mark(Punctuator::Equal) {
+                UNEXPECTED
+            } else {
+                after_declarator(
+                    sight,
+                    types,
+                    Declared::Object,
+                    LIMIT,
+                    declarator,
+                    UNEXPECTED,
+                )
             }
-            GlobalEnd::Value(value) => self.after_value(types, LIMIT, value),
         }
+        GlobalEnd::Value(value) => after_value(sight, types, LIMIT, value),
     }
 }
 
@@ -103,177 +109,179 @@ fn literal_start(literal: Option<Literal>) -> Option<InitialiserStart>
     }
 }
 
-impl<'a> Reader<'a> {
-    pub fn take_init(
-        &mut self,
-        alloc: Global,
-        types: &TypeNames,
-        room: u32,
-    ) -> Result<InitialiserStart, Stop>
-        ensures { Gives result self.new (one (u.init_token types.now room) self.old) }
-    {
-        let sight = self.peek()?;
-        let start = sight.initialiser_start(alloc, types)?;
-        self.take(sight.wanted(types, room, 0, UNEXPECTED, start))
-    }
+pub(crate) fn take_init(
+    alloc: Global,
+    reader: &mut Reader<'_>,
+    types: &TypeNames,
+    room: u32,
+) -> Result<InitialiserStart, Stop>
+    ensures { Gives result reader.new (one (u.init_token types.now room) reader.old) }
+{
+    let sight = reader.peek()?;
+    let start = initialiser_start(alloc, &sight, types)?;
+    reader.take(sight.wanted(types, room, 0, UNEXPECTED, start))
+}
 
-    pub fn take_element(&mut self, room: u32) -> Result<Place, Stop>
-        ensures { Gives result self.new (one (u.element_token room) self.old) }
-    {
-        let sight = self.peek()?;
-        let place = sight.place_if(sight.is_mark(Punctuator::OpenBracket));
-        self.take(sight.offered(room, 0, place))
-    }
+pub(crate) fn take_element(reader: &mut Reader<'_>, room: u32) -> Result<Place, Stop>
+    ensures { Gives result reader.new (one (u.element_token room) reader.old) }
+{
+    let sight = reader.peek()?;
+    let place = sight.place_if(sight.is_mark(Punctuator::OpenBracket));
+    reader.take(sight.offered(room, 0, place))
+}
 
-    pub fn take_literal(&mut self, types: &TypeNames, room: u32) -> Result<Literal, Stop>
-        ensures { Gives result self.new (one (u.literal_token types.now room) self.old) }
-    {
-        let sight = self.peek()?;
-        self.take(sight.wanted(types, room, 1, UNEXPECTED, sight.literal()))
-    }
+pub(crate) fn take_literal(
+    reader: &mut Reader<'_>,
+    types: &TypeNames,
+    room: u32,
+) -> Result<Literal, Stop>
+    ensures { Gives result reader.new (one (u.literal_token types.now room) reader.old) }
+{
+    let sight = reader.peek()?;
+    reader.take(sight.wanted(types, room, 1, UNEXPECTED, sight.literal()))
+}
 
-    pub fn take_element_end(&mut self, types: &TypeNames, room: u32) -> Result<Place, Stop>
-        ensures { Gives result self.new (one (u.element_end types.now room) self.old) }
-    {
-        let sight = self.peek()?;
-        let cause = sight.blame(types, room, 1, UNEXPECTED);
-        let place = sight.place_if(sight.is_mark(Punctuator::CloseBracket));
-        self.take(closing(cause, place))
-    }
+pub(crate) fn take_element_end(
+    reader: &mut Reader<'_>,
+    types: &TypeNames,
+    room: u32,
+) -> Result<Place, Stop>
+    ensures { Gives result reader.new (one (u.element_end types.now room) reader.old) }
+{
+    let sight = reader.peek()?;
+    let cause = sight.blame(types, room, 1, UNEXPECTED);
+    let place = sight.place_if(sight.is_mark(Punctuator::CloseBracket));
+    reader.take(closing(cause, place))
+}
 
-    pub fn take_name(
-        &mut self,
-        alloc: Global,
-        types: &TypeNames,
-        room: u32,
-    ) -> Result<Identifier, Stop>
-        ensures { Gives result self.new (one (u.name_token types.now room) self.old) }
-    {
-        let sight = self.peek()?;
-        let name = sight.plain_name(alloc, types)?;
-        self.take(sight.wanted(types, room, 1, UNEXPECTED, name))
-    }
+pub(crate) fn take_name(
+    alloc: Global,
+    reader: &mut Reader<'_>,
+    types: &TypeNames,
+    room: u32,
+) -> Result<Identifier, Stop>
+    ensures { Gives result reader.new (one (u.name_token types.now room) reader.old) }
+{
+    let sight = reader.peek()?;
+    let name = plain_name(alloc, &sight, types)?;
+    reader.take(sight.wanted(types, room, 1, UNEXPECTED, name))
+}
 
-    pub fn leads_last_comma(&self) -> bool
-        ensures { result ≡ leads u.is_last_comma self.now }
-    {
-        match self.peek() {
-            Ok(sight) => sight.is_last_comma(),
-            Err(_) => false,
-        }
+pub(crate) fn leads_last_comma(reader: &Reader<'_>) -> bool
+    ensures { result ≡ leads u.is_last_comma reader.now }
+{
+    match reader.peek() {
+        Ok(sight) => is_last_comma(&sight),
+        Err(_) => false,
     }
+}
 
-    pub fn take_last_comma(&mut self) -> Result<Place, Stop>
-        ensures { Gives result self.new (one u.last_comma_token self.old) }
-    {
-        let sight = self.peek()?;
-        let place = sight.place_if(sight.is_last_comma());
-        self.take(closing(UNEXPECTED, place))
-    }
+pub(crate) fn take_last_comma(reader: &mut Reader<'_>) -> Result<Place, Stop>
+    ensures { Gives result reader.new (one u.last_comma_token reader.old) }
+{
+    let sight = reader.peek()?;
+    let place = sight.place_if(is_last_comma(&sight));
+    reader.take(closing(UNEXPECTED, place))
+}
 
-    pub fn leads_separator(&self) -> bool
-        ensures { result ≡ leads u.is_separator self.now }
-    {
-        match self.peek() {
-            Ok(sight) => sight.separates_values(),
-            Err(_) => false,
-        }
+pub(crate) fn leads_separator(reader: &Reader<'_>) -> bool
+    ensures { result ≡ leads u.is_separator reader.now }
+{
+    match reader.peek() {
+        Ok(sight) => separates_values(&sight),
+        Err(_) => false,
     }
+}
 
-    pub fn take_separator(&mut self) -> Result<Place, Stop>
-        ensures { Gives result self.new (one u.separator_token self.old) }
-    {
-        let sight = self.peek()?;
-        let place = sight.place_if(sight.separates_values());
-        self.take(closing(UNEXPECTED, place))
-    }
+pub(crate) fn take_separator(reader: &mut Reader<'_>) -> Result<Place, Stop>
+    ensures { Gives result reader.new (one u.separator_token reader.old) }
+{
+    let sight = reader.peek()?;
+    let place = sight.place_if(separates_values(&sight));
+    reader.take(closing(UNEXPECTED, place))
+}
 
-    pub fn take_values_end(
-        &mut self,
-        types: &TypeNames,
-        room: u32,
-        end: ValueEnd,
-    ) -> Result<Place, Stop>
-        ensures { Gives result self.new (one (u.values_end types.now room end) self.old) }
-    {
-        let sight = self.peek()?;
-        let cause = sight.after_value(types, room, end);
-        let place = sight.place_if(sight.is_mark(Punctuator::CloseBrace));
-        self.take(closing(cause, place))
-    }
+pub(crate) fn take_values_end(
+    reader: &mut Reader<'_>,
+    types: &TypeNames,
+    room: u32,
+    end: ValueEnd,
+) -> Result<Place, Stop>
+    ensures { Gives result reader.new (one (u.values_end types.now room end) reader.old) }
+{
+    let sight = reader.peek()?;
+    let cause = after_value(&sight, types, room, end);
+    let place = sight.place_if(sight.is_mark(Punctuator::CloseBrace));
+    reader.take(closing(cause, place))
+}
 
-    pub fn take_equal(&mut self) -> Result<Place, Stop>
-        ensures { Gives result self.new (one s.equal_token self.old) }
-    {
-        let sight = self.peek()?;
-        let place = sight.place_if(sight.is_mark(Punctuator::Equal));
-        self.take(closing(UNEXPECTED, place))
-    }
+pub(crate) fn take_typedef(reader: &mut Reader<'_>) -> Result<Place, Stop>
+    ensures { Gives result reader.new (one u.typedef_token reader.old) }
+{
+    let sight = reader.peek()?;
+    let place = sight.place_if(sight.is_word(Keyword::Typedef));
+    reader.take(closing(UNEXPECTED, place))
+}
 
-    pub fn take_typedef(&mut self) -> Result<Place, Stop>
-        ensures { Gives result self.new (one u.typedef_token self.old) }
-    {
-        let sight = self.peek()?;
-        let place = sight.place_if(sight.is_word(Keyword::Typedef));
-        self.take(closing(UNEXPECTED, place))
-    }
+pub(crate) fn take_extern(reader: &mut Reader<'_>) -> Result<Place, Stop>
+    ensures { Gives result reader.new (one u.extern_token reader.old) }
+{
+    let sight = reader.peek()?;
+    let place = sight.place_if(sight.is_word(Keyword::Extern));
+    reader.take(closing(UNEXPECTED, place))
+}
 
-    pub fn take_extern(&mut self) -> Result<Place, Stop>
-        ensures { Gives result self.new (one u.extern_token self.old) }
-    {
-        let sight = self.peek()?;
-        let place = sight.place_if(sight.is_word(Keyword::Extern));
-        self.take(closing(UNEXPECTED, place))
-    }
+pub(crate) fn take_semicolon_end(reader: &mut Reader<'_>) -> Result<Place, Stop>
+    ensures { Gives result reader.new (one u.semicolon_end reader.old) }
+{
+    let sight = reader.peek()?;
+    let place = sight.place_if(sight.is_mark(Punctuator::Semicolon));
+    reader.take(closing(UNEXPECTED, place))
+}
 
-    pub fn take_semicolon_end(&mut self) -> Result<Place, Stop>
-        ensures { Gives result self.new (one u.semicolon_end self.old) }
-    {
-        let sight = self.peek()?;
-        let place = sight.place_if(sight.is_mark(Punctuator::Semicolon));
-        self.take(closing(UNEXPECTED, place))
-    }
+/// A block begins, which a declaration with `extern` does not have.
+pub(crate) fn leads_body(reader: &Reader<'_>, external: bool) -> bool
+    ensures { result ≡ leads (r.begins_body external) reader.now }
+{
+    reader.leads_mark(Punctuator::OpenBrace) && !external
+}
 
-    /// A block begins, which a declaration with `extern` does not have.
-    pub fn leads_body(&self, external: bool) -> bool
-        ensures { result ≡ leads (r.begins_body external) self.now }
-    {
-        self.leads_mark(Punctuator::OpenBrace) && !external
-    }
+pub(crate) fn take_body(reader: &mut Reader<'_>, external: bool) -> Result<Place, Stop>
+    ensures { Gives result reader.new (one (u.body_token external) reader.old) }
+{
+    let sight = reader.peek()?;
+    let place = sight.place_if(sight.is_mark(Punctuator::OpenBrace) && !external);
+    reader.take(closing(UNEXPECTED, place))
+}
 
-    pub fn take_body(&mut self, external: bool) -> Result<Place, Stop>
-        ensures { Gives result self.new (one (u.body_token external) self.old) }
-    {
-        let sight = self.peek()?;
-        let place = sight.place_if(sight.is_mark(Punctuator::OpenBrace) && !external);
-        self.take(closing(UNEXPECTED, place))
-    }
+#[tactic(auto, unfolding(crate::specs::Units::limit))]
+pub(crate) fn take_typedefs_end(
+    reader: &mut Reader<'_>,
+    types: &TypeNames,
+    end: DeclaratorEnd,
+) -> Result<Place, Stop>
+    ensures { Gives result reader.new (one (u.typedefs_end (record { items = []; types = types.now; end = end })) reader.old) }
+{
+    let sight = reader.peek()?;
+    let cause = if sight.is_mark(Punctuator::Comma) {
+        UNEXPECTED
+    } else {
+        after_declarator(&sight, types, Declared::Type, LIMIT, end, UNEXPECTED)
+    };
+    let place = sight.place_if(sight.is_mark(Punctuator::Semicolon));
+    reader.take(closing(cause, place))
+}
 
-    #[tactic(auto, unfolding(crate::specs::Units::limit))]
-    pub fn take_typedefs_end(
-        &mut self,
-        types: &TypeNames,
-        end: DeclaratorEnd,
-    ) -> Result<Place, Stop>
-        ensures { Gives result self.new (one (u.typedefs_end (record { items = []; types = types.now; end = end })) self.old) }
-    {
-        let sight = self.peek()?;
-        let cause = if sight.is_mark(Punctuator::Comma) {
-            UNEXPECTED
-        } else {
-            sight.after_declarator(types, Declared::Type, LIMIT, end, UNEXPECTED)
-        };
-        let place = sight.place_if(sight.is_mark(Punctuator::Semicolon));
-        self.take(closing(cause, place))
-    }
-
-    #[tactic(auto, unfolding(crate::specs::Units::limit))]
-    pub fn take_globals_end(&mut self, types: &TypeNames, end: GlobalEnd) -> Result<Place, Stop>
-        ensures { Gives result self.new (one (u.globals_end types.now end) self.old) }
-    {
-        let sight = self.peek()?;
-        let cause = sight.after_global(types, end);
-        let place = sight.place_if(sight.is_mark(Punctuator::Semicolon));
-        self.take(closing(cause, place))
-    }
+#[tactic(auto, unfolding(crate::specs::Units::limit))]
+pub(crate) fn take_globals_end(
+    reader: &mut Reader<'_>,
+    types: &TypeNames,
+    end: GlobalEnd,
+) -> Result<Place, Stop>
+    ensures { Gives result reader.new (one (u.globals_end types.now end) reader.old) }
+{
+    let sight = reader.peek()?;
+    let cause = after_global(&sight, types, end);
+    let place = sight.place_if(sight.is_mark(Punctuator::Semicolon));
+    reader.take(closing(cause, place))
 }

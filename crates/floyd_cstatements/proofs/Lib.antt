@@ -1,0 +1,4 @@
+pub mod StatementSets
+pub mod StatementExact
+pub mod BlockExact
+pub mod StatementShrinks

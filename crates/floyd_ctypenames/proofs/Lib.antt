@@ -1,0 +1,4 @@
+pub mod TypeSets
+pub mod TypeExact
+pub mod DeclaratorExact
+pub mod TypeShrinks
