@@ -2,4 +2,8 @@
 #![tactic(auto)]
 
 #[cfg(test)]
+mod pages;
+#[cfg(test)]
 mod parsing;
+#[cfg(test)]
+mod rows;

@@ -1,199 +1,169 @@
-use floyd_cparse::{BlockItem, CExpr, CStatement, CUnit, External, parse};
+use crate::pages::{BEGINNINGS, PAGES};
+use crate::rows::{DEPTH, EXPRESSIONS, SOURCES, STATEMENTS, TYPES};
+use floyd_cparse::parse;
+use floyd_csyntax::{BlockItem, CExpr, CStatement, CUnit, External};
 use floyd_lex::{FileKind, Tokens, tokens};
-use floyd_text::{Halt, Refusal, Shown};
+use floyd_text::{Halt, Refusal, Shown, place_of};
 use std::alloc::{AllocError, Global};
 use std::test::Fail;
 
-/// What a source reads as: a tree, or the code, line and column of its refusal.
-#[derive(Clone, Copy, PartialEq, Eq, Debug)]
-enum Outcome {
-    Read,
-    Refused(u16, u32, u32),
-    NotTried,
-}
-
-use Outcome::{NotTried, Read, Refused};
-
-fn outcome_of(alloc: Global, bytes: &[u8]) -> Outcome {
+/// What a source reads as: `reads`, or the code, name and place of its refusal.
+fn answer(alloc: Global, bytes: &[u8]) -> Result<String, AllocError> {
     if bytes.len() >= 1 << 32 {
-        return NotTried;
+        return "too long".to_string(alloc);
     }
     let list = match tokens(alloc, FileKind::Source, 7, bytes) {
         Ok(list) => list,
-        Err(_) => return NotTried,
+        Err(_) => return "no tokens".to_string(alloc),
     };
     match parse(alloc, 7, bytes, &list) {
-        Ok(_) => Read,
-        Err(Halt::Refused(r)) => Refused(r.code, r.place.line, r.place.column),
-        Err(Halt::Memory) => NotTried,
+        Ok(_) => "reads".to_string(alloc),
+        Err(Halt::Refused(refusal)) => refused(alloc, &refusal),
+        Err(Halt::Memory) => "no memory".to_string(alloc),
     }
 }
 
-/// Whether the source is refused with this code, this name is shown, and the place is in its file.
-fn shows(alloc: Global, bytes: &[u8], code: u16, name: &[u8]) -> bool {
-    if bytes.len() >= 1 << 32 {
-        return false;
-    }
-    match tokens(alloc, FileKind::Source, 7, bytes) {
-        Ok(list) => match parse(alloc, 7, bytes, &list) {
-            Err(Halt::Refused(r)) => is_shown(&r, code, name),
-            _ => false,
-        },
-        Err(_) => false,
-    }
-}
-
-fn is_shown(refusal: &Refusal, code: u16, name: &[u8]) -> bool {
-    match &refusal.shown {
-        Shown::Name(shown) => {
-            refusal.code == code && refusal.place.file == 7 && shown.as_slice() == name
+fn refused(alloc: Global, refusal: &Refusal) -> Result<String, AllocError> {
+    let mut text = format!(in alloc; "{}", refusal.code)?;
+    if let Shown::Name(name) = &refusal.shown {
+        text.push(' ')?;
+        for b in name.as_slice() {
+            text.push(*b as char)?;
         }
-        _ => false,
     }
+    let place = refusal.place;
+    let at = format!(in alloc; " at {}:{}:{}", place.file, place.line, place.column)?;
+    text.push_str(at.as_str())?;
+    Ok(text)
 }
 
-#[test]
-fn outcomes(rt: HostRuntime) -> Result<(), Fail> {
-    let table: &[(&[u8], Outcome)] = &[
-        (b"", Read),
-        (b"int main(void) { return 1 }", Refused(301, 1, 27)),
-        (b"float f;", Refused(303, 1, 1)),
-        (b"int x", Refused(301, 1, 6)),
-        (b"int x\n", Refused(301, 2, 1)),
-        // declarations
-        (b"int; struct s; extern int f(int, char *p);", Read),
-        (b"struct s { int a, *b; const long c[3]; } x, *y;", Read),
-        (
-            b"int a[3] = { 1, -2, 'c', }, *p = &a[1], *q = a, *r = &x;",
-            Read,
-        ),
-        (b"extern int f(void) { }", Refused(301, 1, 20)),
-        (b"unsigned const int x;", Refused(301, 1, 16)),
-        (b"int x float;", Refused(303, 1, 7)),
-        (b"int a[];", Refused(303, 1, 6)),
-        (b"int f(int a[]);", Read),
-        (b"int a[3;", Refused(303, 1, 6)),
-        (b"int a[", Refused(303, 1, 6)),
-        (b"int a[3", Refused(301, 1, 8)),
-        (b"struct s { int x : 3; };", Refused(303, 1, 18)),
-        // names of types
-        (b"typedef int T, f(T); T x; T *g(T y);", Read),
-        (b"typedef int T; T T;", Refused(304, 1, 18)),
-        (
-            b"typedef int T; void f(void) { int T; }",
-            Refused(304, 1, 35),
-        ),
-        (b"typedef int T; typedef long T;", Read),
-        (b"typedef int T; struct T { int T; };", Read),
-        (
-            b"typedef int T; void f(void) { x = T; }",
-            Refused(301, 1, 35),
-        ),
-        (b"typedef int T; int f(int (T));", Read),
-        (b"typedef int T; int f(int T);", Refused(304, 1, 26)),
-        // statements
-        (
-            b"void f(void) { ; { } if (a) b(); else if (c) d(); else e(); }",
-            Read,
-        ),
-        (
-            b"void f(void) { while (a < b) a++; do --*p; while (!a); }",
-            Read,
-        ),
-        (
-            b"void f(void) { for (;;) break; for (a = 0; a < 9; a += 2) continue; }",
-            Read,
-        ),
-        (
-            b"int f(void) { int x = g(1, y = 2), *p; x = p[1]->a.b ? 1 : (int)2; return x; }",
-            Read,
-        ),
-        (b"void f(void) { x + 1; }", Refused(301, 1, 18)),
-        (b"void f(void) { else ; }", Refused(301, 1, 16)),
-        (b"void f(void) { if (a) ; ; else ; }", Refused(301, 1, 27)),
-        (b"void f(void) { x = a + b = c; }", Refused(301, 1, 26)),
-        (b"void f(void) { goto a; }", Refused(303, 1, 16)),
-        (b"void f(void) { a: ; }", Refused(303, 1, 16)),
-        (b"void f(void) { int a = { 1 }; }", Refused(303, 1, 24)),
-        (b"void f(void) { x = 1, y = 2; }", Refused(303, 1, 21)),
-        (b"void f(void) { g(x = 1, 2); int x = y = 1, z; }", Read),
-        (b"void f(void) { x = (a, b); }", Refused(303, 1, 22)),
-        (b"int f(void) { return a, b; }", Refused(301, 1, 23)),
-        (b"int f(void) { return sizeof x; }", Refused(303, 1, 22)),
-        (
-            b"int f(void) { return sizeof(int)[0]; }",
-            Refused(301, 1, 33),
-        ),
-    ];
-    for (bytes, wanted) in table {
-        assert_eq!(rt; outcome_of(rt.alloc(), bytes), *wanted);
+/// Adds a text, with its ends of lines.
+fn add(all: &mut Vec<u8>, text: &str) -> Result<(), AllocError> {
+    for b in text.as_bytes() {
+        all.push(if *b == b'$' { b'\n' } else { *b })?;
     }
     Ok(())
 }
 
-#[test]
-fn shown(rt: HostRuntime) -> Result<(), Fail> {
-    let alloc = rt.alloc();
-    assert!(rt; shows(alloc, b"float f;", 303, b"float"));
-    assert!(rt; shows(alloc, b"int a[];", 303, b"["));
-    assert!(rt; shows(alloc, b"void f(void) { done: ; }", 303, b"done"));
-    assert!(rt; shows(alloc, b"typedef int T; T T;", 304, b"T"));
+fn add_times(all: &mut Vec<u8>, times: u32, text: &str) -> Result<(), AllocError> {
+    for _ in 0..times {
+        add(all, text)?;
+    }
     Ok(())
 }
 
-/// The bytes between two texts, so many times on each side of a constant.
-fn nested(alloc: Global, front: &[u8], times: u32, back: &[u8]) -> Result<Vec<u8>, AllocError> {
-    let mut all = Vec::from_slice(alloc, front)?;
-    'open: for _ in 0..times {
-        all.extend_from_slice(b"(")?;
+/// Adds a part of a row's text, with its repetitions.
+fn expand(all: &mut Vec<u8>, part: &str) -> Result<(), Fail> {
+    let mut repeats = false;
+    for piece in part.split('`') {
+        match piece.split_once(' ') {
+            Some((times, text)) if repeats => add_times(all, times.parse::<u32>()?, text)?,
+            _ => add(all, piece)?,
+        }
+        repeats = !repeats;
     }
-    all.extend_from_slice(b"1")?;
-    'close: for _ in 0..times {
-        all.extend_from_slice(b")")?;
+    Ok(())
+}
+
+/// The text of a row and the answer that it expects.
+fn row_of(alloc: Global, row: &str, front: &str, back: &str) -> Result<(Vec<u8>, String), Fail> {
+    let (wanted, text) = row.split_once('#').ok_or("no answer")?;
+    let mut all = Vec::new(alloc);
+    add(&mut all, front)?;
+    let mut answer = wanted.to_string(alloc)?;
+    match text.split_once('@') {
+        None => expand(&mut all, text)?,
+        Some((before, behind)) => {
+            expand(&mut all, before)?;
+            let place = place_of(7, all.as_slice(), all.len());
+            let at = format!(in alloc; " at 7:{}:{}", place.line, place.column)?;
+            answer.push_str(at.as_str())?;
+            expand(&mut all, behind)?;
+        }
     }
-    all.extend_from_slice(back)?;
+    add(&mut all, back)?;
+    Ok((all, answer))
+}
+
+/// The rows whose text, between the two texts, has another answer than they expect, each with its answer.
+fn failing(alloc: Global, rows: &str, front: &str, back: &str) -> Result<String, Fail> {
+    let mut all = String::new(alloc);
+    for row in rows.lines() {
+        let (text, wanted) = row_of(alloc, row, front, back)?;
+        let found = answer(alloc, text.as_slice())?;
+        if found.as_str() != wanted.as_str() {
+            all.push_str(format!(in alloc; "{row}, but {found}\n")?.as_str())?;
+        }
+    }
     Ok(all)
 }
 
 #[test]
+fn sources(rt: HostRuntime) -> Result<(), Fail> {
+    let failed = failing(rt.alloc(), SOURCES, "", "")?;
+    assert_eq!(rt; failed.as_str(), "");
+    Ok(())
+}
+
+#[test]
+fn types(rt: HostRuntime) -> Result<(), Fail> {
+    let failed = failing(rt.alloc(), TYPES, "", "")?;
+    assert_eq!(rt; failed.as_str(), "");
+    Ok(())
+}
+
+#[test]
 fn depth(rt: HostRuntime) -> Result<(), Fail> {
+    let failed = failing(rt.alloc(), DEPTH, "", "")?;
+    assert_eq!(rt; failed.as_str(), "");
+    Ok(())
+}
+
+#[test]
+fn statements(rt: HostRuntime) -> Result<(), Fail> {
+    let failed = failing(rt.alloc(), STATEMENTS, "void f(void) { ", " }")?;
+    assert_eq!(rt; failed.as_str(), "");
+    Ok(())
+}
+
+#[test]
+fn expressions(rt: HostRuntime) -> Result<(), Fail> {
+    let failed = failing(rt.alloc(), EXPRESSIONS, "int f(void) { return ", "; }")?;
+    assert_eq!(rt; failed.as_str(), "");
+    Ok(())
+}
+
+#[test]
+fn pages(rt: HostRuntime) -> Result<(), Fail> {
     let alloc = rt.alloc();
-    let front = b"int f(void) { return ";
-    let read = nested(alloc, front, 199, b"; }")?;
-    assert_eq!(rt; outcome_of(alloc, read.as_slice()), Read);
-    let deep = nested(alloc, front, 200, b"; }")?;
-    assert_eq!(rt; outcome_of(alloc, deep.as_slice()), Refused(302, 1, 221));
+    for page in PAGES {
+        assert_eq!(rt; answer(alloc, page.as_bytes())?.as_str(), "reads", "{page}");
+    }
     Ok(())
 }
 
 /// Whether each beginning of the tokens reads or goes on: it is refused at its end alone.
-fn goes_on(alloc: Global, bytes: &[u8], list: &Tokens) -> bool {
+fn goes_on(alloc: Global, bytes: &[u8], list: &Tokens) -> Result<bool, AllocError> {
     'each: for at in 0..list.len() {
         let (_, end) = list.span(at);
         let end = bytes.len().min(end as usize);
-        match outcome_of(alloc, &bytes[..end]) {
-            Read => {}
-            Refused(code, 1, column) if code == 301 && column as usize == end + 1 => {}
-            _ => return false,
+        let at_end = format!(in alloc; "301 at 7:1:{}", end as u64 + 1)?;
+        let answer = answer(alloc, &bytes[..end])?;
+        if answer.as_str() != "reads" && answer.as_str() != at_end.as_str() {
+            return Ok(false);
         }
     }
-    true
+    Ok(true)
 }
 
 #[test]
 fn beginnings(rt: HostRuntime) -> Result<(), Fail> {
     let alloc = rt.alloc();
-    let table: &[&[u8]] = &[
-        b"int x = 1, *f(int a, char *), y; extern long z; struct s { int a; } w;",
-        b"typedef int T; T f(T a) { return a ? g(a, 1) : (T)-a; }",
-        b"void f(void) { int i = 0, j; for (i = 0; i < 9; i++) if (a[i]) b->c = d.e; else break; }",
-        b"void f(void) { do { x += 1 << y; } while (!x && y); while (1) continue; ; return; }",
-        b"int a = -1; struct s *p = &q, r = { { 1, 2, }, x, &y[3] };",
-    ];
-    for bytes in table {
+    for line in BEGINNINGS.lines() {
+        let bytes = line.as_bytes();
         match tokens(alloc, FileKind::Source, 7, bytes) {
-            Ok(list) => assert!(rt; goes_on(alloc, bytes, &list)),
-            Err(_) => assert!(rt; false),
+            Ok(list) => assert!(rt; goes_on(alloc, bytes, &list)?, "{line}"),
+            Err(_) => assert!(rt; false, "{line}"),
         }
     }
     Ok(())
