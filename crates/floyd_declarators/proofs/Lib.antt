@@ -1,0 +1,11 @@
+pub mod DeclaratorLemmas
+pub mod Growing
+pub mod LimitLemmas
+pub mod NameLemmas
+pub mod PartLemmas
+pub mod SameLemmas
+pub mod SpecifierLemmas
+pub mod StoredLemmas
+pub mod TurnLemmas
+pub mod TypeLemmas
+pub mod WrapLemmas
