@@ -1,0 +1,4 @@
+pub mod OperatorLemmas
+pub mod ExpressionLemmas
+pub mod Weights
+pub mod Chains
