@@ -1,0 +1,5 @@
+pub mod Adding
+pub mod DeclaratorParts
+pub mod ExpressionParts
+pub mod FlagLaws
+pub mod StatementParts
