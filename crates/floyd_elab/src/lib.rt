@@ -1,0 +1,2 @@
+//! Sources of C turned into Clight.
+#![tactic(auto)]

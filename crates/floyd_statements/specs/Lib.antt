@@ -1,0 +1,4 @@
+-- Definitions that contracts cite.
+pub mod Locals
+pub mod LocalParts
+pub mod Statements

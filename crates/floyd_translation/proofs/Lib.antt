@@ -1,0 +1,4 @@
+pub mod NodeLemmas
+pub mod TruthLemmas
+pub mod SequenceLemmas
+pub mod Counts

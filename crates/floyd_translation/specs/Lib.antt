@@ -1,0 +1,8 @@
+-- Definitions that contracts cite.
+pub mod Clight
+pub mod Progress
+pub mod Expressions
+pub mod Effects
+pub mod Behind
+pub mod Logic
+pub mod Counted

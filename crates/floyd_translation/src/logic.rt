@@ -1,0 +1,119 @@
+ghost use Rattle.std.specs.Prelude.{◌≡◌, List, [], ◌∷◌, ◌++◌, IfOk};
+ghost use Rattle.floyd_clight.specs.declared.syntax.Stmt.{Stmt, Set};
+ghost use Rattle.floyd_translation.specs.Clight.{sequence as sequence_lem};
+ghost use Rattle.floyd_text.specs.Gives.{Gives};
+ghost use Rattle.floyd_translation.specs.Behind.{behind};
+ghost use Rattle.floyd_translation.specs.Expressions.{truth as truth_lem, sent as sent_lem, chosen as chosen_lem};
+ghost use Rattle.floyd_translation.specs.Logic.{decided as decided_lem};
+
+use crate::casts::cast_into;
+use crate::names::pulled_name;
+use crate::nodes::{one, zero};
+use crate::progress::Progress;
+use crate::sequences::sequence;
+use crate::translation::Translation;
+use floyd_clight::{Expr, Stmt, StmtList};
+use floyd_ctypes::CType;
+use floyd_ctyping::{Operand, common_type};
+use floyd_int::IntKind;
+use floyd_text::{Halt, Name, Place, Shared};
+use std::alloc::{AllocError, Global};
+
+/// `&&` and `||`.
+#[derive(Clone, Copy, PartialEq, Eq, Debug)]
+pub enum Logical {
+    And,
+    Or,
+}
+
+/// A temporary of type int that was set before.
+pub fn truth(x: Name) -> Translation
+    ensures { (before : List Stmt) → behind before result ≡ truth_lem x before }
+{
+    Translation {
+        expr: Expr::Temp(x, CType::Int(IntKind::I32)),
+        operand: Operand::value(CType::Int(IntKind::I32)),
+    }
+}
+
+/// Sets the temporary to `e` behind these statements.
+fn set_behind(mut before: StmtList, x: &Name, e: Expr) -> Result<Stmt, AllocError>
+    ensures { IfOk result (λ s. s ≡ sequence_lem (before ++ Set x.now e ∷ [])) }
+{
+    before.push(Stmt::Set(x.share()?, e))?;
+    Ok(sequence(before))
+}
+
+/// The statement by which `&&` or `||` sets the temporary: the second is only tested where the first does not decide.
+pub fn decided(
+    alloc: Global,
+    op: Logical,
+    first: Expr,
+    before: StmtList,
+    second: Expr,
+    x: &Name,
+) -> Result<Stmt, AllocError>
+    ensures { IfOk result (λ s. s ≡ decided_lem op first before second x.now) }
+{
+    let second = Shared::new(alloc, set_behind(before, x, second)?)?;
+    match op {
+        Logical::And => {
+            let short = Shared::new(alloc, Stmt::Set(x.share()?, zero()))?;
+            Ok(Stmt::If(first, second, short))
+        }
+        Logical::Or => {
+            let short = Shared::new(alloc, Stmt::Set(x.share()?, one()))?;
+            Ok(Stmt::If(first, short, second))
+        }
+    }
+}
+
+/// A branch of `?:`, which sets the temporary.
+fn sent(
+    alloc: Global,
+    x: &Name,
+    t: &CType,
+    before: StmtList,
+    a: &Translation,
+) -> Result<Stmt, AllocError>
+    ensures { IfOk result (λ s. s ≡ sent_lem x.now t.now (behind before a.now)) }
+{
+    let e = cast_into(alloc, t, a)?;
+    set_behind(before, x, e)
+}
+
+/// What stands before a part of an expression, and the part.
+#[derive(Drop)]
+pub struct Part {
+    pub before: StmtList,
+    pub value: Translation,
+}
+
+/// `a ? b : c`, where each branch sets the temporary of the number `k` to its part, cast to the common type.
+pub fn chosen(
+    alloc: Global,
+    place: Place,
+    k: u64,
+    test: Expr,
+    a: Part,
+    b: Part,
+    progress: &mut Progress,
+    out: &mut StmtList,
+) -> Result<Translation, Halt>
+    ensures exact { Gives (λ r. (behind out.new r, progress.new)) result (chosen_lem place k out.old test (behind a.before a.value) (behind b.before b.value) progress.old) }
+{
+    let found = common_type(alloc, &a.value.operand, &b.value.operand)?;
+    let operand = floyd_ctyping::gives_value(place, found)?;
+    let t = operand.ctype.share(alloc)?;
+    let x = pulled_name(alloc, k)?;
+    progress.add_temporary(x.share()?, t.share(alloc)?)?;
+    let first = sent(alloc, &x, &t, a.before, &a.value)?;
+    let second = sent(alloc, &x, &t, b.before, &b.value)?;
+    let first = Shared::new(alloc, first)?;
+    let second = Shared::new(alloc, second)?;
+    out.push(Stmt::If(test, first, second))?;
+    Ok(Translation {
+        expr: Expr::Temp(x, t),
+        operand,
+    })
+}
