@@ -1,0 +1,17 @@
+pub mod KindLemmas
+pub mod GivesLemmas
+pub mod TypeNameLemmas
+pub mod ValueLemmas
+pub mod EvaluationLemmas
+pub mod RunLemmas
+pub mod FactLemmas
+pub mod MeaningLemmas
+pub mod BranchLemmas
+pub mod TruthLemmas
+pub mod ExpressionLemmas
+pub mod HeldLemmas
+pub mod NameLemmas
+pub mod MeaningLaws
+pub mod StepLemmas
+pub mod ReadLemmas
+pub mod EffectLemmas

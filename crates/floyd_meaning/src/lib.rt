@@ -1,0 +1,9 @@
+//! What integer expressions of C mean, and that elaboration keeps it.
+#![tactic(auto)]
+
+mod laws;
+
+pub use laws::{
+    allowed_temporaries_hold_numbers, drawn_names_are_apart, expressions_keep_their_meaning,
+    memory_is_read_by_pulls, runs_are_steps, straight_expressions_keep_their_meaning,
+};
