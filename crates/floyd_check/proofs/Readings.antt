@@ -7,7 +7,7 @@ use Rattle.floyd_lex.specs.Cuts as cuts
 use Rattle.floyd_lex.specs.Cuts.{IsCut}
 use Rattle.floyd_lex.specs.Token.{Token, TokenList, tokens_in}
 use Rattle.floyd_lex.specs.declared.kinds.FileKind.TheVariants as kinds
-use Rattle.floyd_cparse.specs.declared.declarations.CUnit.{CUnit}
+use Rattle.floyd_csyntax.specs.declared.declarations.CUnit.{CUnit}
 use Rattle.floyd_cparse.specs.Source as source
 use Rattle.floyd_cparse.specs.Source.{IsRead}
 use Rattle.floyd_first.specs.declared.form.Main.{Main}
