@@ -1,0 +1,5 @@
+//! Tests of the flags of local variables.
+#![tactic(auto)]
+
+#[cfg(test)]
+mod bodies;
