@@ -1,4 +1,15 @@
 pub mod NodeLemmas
 pub mod TruthLemmas
+pub mod Chains
+pub mod Naturals
+pub mod Bridges
+pub mod Operations
+pub mod Logics
 pub mod SequenceLemmas
 pub mod Counts
+pub mod Weights
+pub mod Answering
+pub mod ExpressionLemmas
+pub mod Branching
+pub mod PrefixLemmas
+pub mod Concluding

@@ -2,7 +2,6 @@
 pub mod Clight
 pub mod Progress
 pub mod Expressions
-pub mod Effects
 pub mod Behind
 pub mod Logic
 pub mod Counted

@@ -1,11 +1,13 @@
-//! Expressions and effects of C turned into Clight: the definitions, and the parts of which an expression is made.
+//! Expressions and effects of C turned into Clight.
 #![tactic(auto)]
 
 mod casts;
+mod expressions;
 mod logic;
 mod name_list;
 mod names;
 mod nodes;
+mod operands;
 mod operators;
 mod progress;
 mod reads;
@@ -14,15 +16,13 @@ mod translation;
 mod truths;
 
 pub use casts::cast_into;
-pub use logic::{Logical, Part, chosen, decided, truth};
+pub use expressions::{prefixed, translated, valued};
 pub use name_list::NameList;
 pub use names::{kth_name, pulled_name};
-pub use operators::{
-    binary_operator, cast_to, indexed, literal, member, named, prefix_operator, refused_assignment,
-    refused_call, refused_step, variable_of,
-};
+pub use nodes::one;
+pub use operators::{binary_operator, variable_of};
 pub use progress::Progress;
-pub use reads::{before_member, before_operator, read};
+pub use reads::read;
 pub use sequences::{sequence, store};
 pub use translation::Translation;
 pub use truths::test_of;

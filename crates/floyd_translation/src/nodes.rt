@@ -69,7 +69,7 @@ pub(crate) fn zero() -> Expr
 }
 
 /// The 1 of type int.
-pub(crate) fn one() -> Expr
+pub fn one() -> Expr
     ensures { result ≡ one_lem }
 {
     Expr::Const(Value::Vint(1), CType::Int(IntKind::I32))

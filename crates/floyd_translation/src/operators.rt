@@ -52,7 +52,11 @@ fn named_expr(
 }
 
 /// A name that stands for this.
-pub fn named(alloc: Global, i: &Identifier, meaning: Option<&Meaning>) -> Result<Translation, Halt>
+pub(crate) fn named(
+    alloc: Global,
+    i: &Identifier,
+    meaning: Option<&Meaning>,
+) -> Result<Translation, Halt>
     ensures exact { (progress : Kept) → Gives (λ a. (behind [] a, progress)) result (named_lem i.now (option_copied meaning.entry) progress) }
 {
     let operand = floyd_ctyping::named(alloc, i, meaning)?;
@@ -60,7 +64,7 @@ pub fn named(alloc: Global, i: &Identifier, meaning: Option<&Meaning>) -> Result
     Ok(Translation { expr, operand })
 }
 
-pub fn literal(l: &Literal) -> Translation
+pub(crate) fn literal(l: &Literal) -> Translation
     ensures { behind [] result ≡ literal_lem l.now }
 {
     Translation {
@@ -97,7 +101,7 @@ fn prefix_expr(alloc: Global, op: PrefixOp, a: &Translation, t: CType) -> Result
 }
 
 /// An operator before its operand.
-pub fn prefix_operator(
+pub(crate) fn prefix_operator(
     alloc: Global,
     op: PrefixOp,
     place: Place,
@@ -112,7 +116,12 @@ pub fn prefix_operator(
 }
 
 /// A written cast stays, also one between equal types.
-pub fn cast_to(alloc: Global, place: Place, t: &CType, a: &Translation) -> Result<Translation, Halt>
+pub(crate) fn cast_to(
+    alloc: Global,
+    place: Place,
+    t: &CType,
+    a: &Translation,
+) -> Result<Translation, Halt>
     ensures exact { (before : List Stmt) (progress : Kept) → Gives (λ r. (behind before r, progress)) result (cast_to_lem place t.now (behind before a.now) progress) }
 {
     let operand = floyd_ctyping::cast_to(alloc, place, t, &a.operand)?;
@@ -140,7 +149,7 @@ pub fn binary_operator(
 }
 
 /// `a[i]`, which is `*(a + i)`.
-pub fn indexed(
+pub(crate) fn indexed(
     alloc: Global,
     place: Place,
     a: &Translation,
@@ -186,7 +195,7 @@ fn shared(alloc: Global, t: Option<&CType>) -> Result<Option<CType>, AllocError>
 }
 
 /// A field of a struct.
-pub fn member(
+pub(crate) fn member(
     alloc: Global,
     op: MemberOp,
     place: Place,
@@ -204,44 +213,48 @@ pub fn member(
 }
 
 /// A step inside an expression is refused.
-pub fn refused_step(
+pub(crate) fn refused_step(
     alloc: Global,
     place: Place,
-    a: &Translation,
+    a: Translation,
     progress: &Progress,
 ) -> Result<Translation, Halt>
-    ensures exact { (before : List Stmt) → Gives (λ r. (behind before r, progress.now)) result (refused_lem (nested_step place a.now.operand) (behind before a.now) progress.now) }
+    ensures exact { (before : List Stmt) → Gives (λ r. (behind before r, progress.now)) result (refused_lem (nested_step place a.operand) (behind before a) progress.now) }
 {
     let operand = floyd_ctyping::nested_step(alloc, &progress.tags, place, &a.operand)?;
     Ok(Translation {
-        expr: a.expr.share(alloc)?,
+        expr: a.expr,
         operand,
     })
 }
 
 /// An assignment inside an expression is refused.
-pub fn refused_assignment(alloc: Global, place: Place, a: &Translation) -> Result<Translation, Halt>
-    ensures exact { (before : List Stmt) (progress : Kept) → Gives (λ r. (behind before r, progress)) result (refused_lem (nested_assignment place a.now.operand) (behind before a.now) progress) }
+pub(crate) fn refused_assignment(
+    alloc: Global,
+    place: Place,
+    a: Translation,
+) -> Result<Translation, Halt>
+    ensures exact { (before : List Stmt) (progress : Kept) → Gives (λ r. (behind before r, progress)) result (refused_lem (nested_assignment place a.operand) (behind before a) progress) }
 {
     let operand = floyd_ctyping::nested_assignment(place, &a.operand)?;
     Ok(Translation {
-        expr: a.expr.share(alloc)?,
+        expr: a.expr,
         operand,
     })
 }
 
 /// A call inside an expression is refused.
-pub fn refused_call(
+pub(crate) fn refused_call(
     alloc: Global,
     place: Place,
     count: usize,
-    a: &Translation,
+    a: Translation,
 ) -> Result<Translation, Halt>
-    ensures exact { (before : List Stmt) (progress : Kept) → Gives (λ r. (behind before r, progress)) result (refused_lem (nested_call place count a.now.operand) (behind before a.now) progress) }
+    ensures exact { (before : List Stmt) (progress : Kept) → Gives (λ r. (behind before r, progress)) result (refused_lem (nested_call place count a.operand) (behind before a) progress) }
 {
     let operand = floyd_ctyping::nested_call(alloc, place, count, &a.operand)?;
     Ok(Translation {
-        expr: a.expr.share(alloc)?,
+        expr: a.expr,
         operand,
     })
 }

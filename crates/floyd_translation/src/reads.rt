@@ -47,7 +47,7 @@ fn pulled(
 }
 
 /// What an operator is applied to: `&` does not read it.
-pub fn before_operator(
+pub(crate) fn before_operator(
     alloc: Global,
     op: PrefixOp,
     a: &Translation,
@@ -67,7 +67,7 @@ pub fn before_operator(
 }
 
 /// What a field is taken of: `.` does not read the struct before it.
-pub fn before_member(
+pub(crate) fn before_member(
     alloc: Global,
     op: MemberOp,
     a: &Translation,

@@ -1,0 +1,5 @@
+pub mod Leading
+pub mod CallLemmas
+pub mod EffectLemmas
+pub mod OtherLemmas
+pub mod ArgumentLemmas
