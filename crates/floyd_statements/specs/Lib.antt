@@ -2,3 +2,5 @@
 pub mod Locals
 pub mod LocalParts
 pub mod Statements
+pub mod Walks
+pub mod Placed

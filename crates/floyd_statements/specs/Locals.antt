@@ -1,7 +1,7 @@
 -- Elaboration of local variables. A variable is a temporary, unless it is an array or a struct or `&` is applied to it:
 -- then it has a block. The k-th variable of one name in a function, from the second on, is named by it and k; a parameter
 -- counts.
-use Rattle.std.specs.Prelude.{ℕ, ◌+◌, ◌==◌, Bool, ◌||◌, List, [], ◌∷◌, ◌++◌, count_by, Option, Some, None, if◌then◌else◌, bytes_eq}
+use Rattle.std.specs.Prelude.{ℕ, ◌+◌, ◌==◌, Bool, ◌||◌, List, [], ◌∷◌, ◌++◌, count_by, Option, Some, if◌then◌else◌, bytes_eq}
 use Rattle.floyd_text.specs.declared.place.Place.{Place}
 use Rattle.floyd_ctypes.specs.declared.ctype.CType.{CType}
 use Rattle.floyd_csyntax.specs.declared.types.Declarator.{Declarator}
@@ -22,7 +22,7 @@ use Rattle.floyd_clight.specs.declared.syntax.Stmt.{Stmt}
 use Rattle.floyd_translation.specs.Clight.{Translated, kth_name}
 use Rattle.floyd_translation.specs.Progress.{Elaborating, typing, add_temporary, add_block, add_name}
 use Rattle.floyd_translation.specs.Expressions.{variable_of}
-use Rattle.floyd_translation.specs.Effects.{assigned_first}
+use Rattle.floyd_effects.specs.Effects.{assigned_first}
 use Rattle.floyd_addresses.specs.Addresses.{in_initialiser, in_declarators}
 
 -- the site of a declarator without a name, which no variable has

@@ -18,7 +18,7 @@ use Rattle.floyd_clight.specs.declared.syntax.Stmt.{Stmt}
 use Rattle.floyd_translation.specs.Clight.{cast_into, test_of, sequence}
 use Rattle.floyd_translation.specs.Progress.{Elaborating, typing}
 use Rattle.floyd_translation.specs.Expressions.{valued}
-use Rattle.floyd_translation.specs.Effects.{right_side, effect}
+use Rattle.floyd_effects.specs.Effects.{right_side, effect}
 use Rattle.floyd_addresses.specs.Addresses.{in_items}
 use Rattle.floyd_statements.specs.Locals.{nowhere, declarators}
 

@@ -1,6 +1,10 @@
-//! Statements and local variables of C turned into Clight: the definitions, and how a local variable is declared.
+//! Statements of C turned into Clight.
 #![tactic(auto)]
 
+mod conditions;
 mod locals;
+mod returns;
+mod statements;
+mod variables;
 
-pub use locals::variable;
+pub use statements::body;

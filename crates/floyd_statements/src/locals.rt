@@ -1,20 +1,29 @@
 //! Declarations of local variables.
-ghost use Rattle.std.specs.Prelude.{◌≡◌, IfOk};
+ghost use Rattle.std.specs.Prelude.{◌≡◌, [], ◌∷◌, ◌++◌, ℕ, Bool, List, IfOk, OnOk};
 ghost use Rattle.floyd_text.specs.Gives.{Gives};
+ghost use Rattle.floyd_declarators.specs.declared.meaning.Meaning.TheVariants.{Variable};
 ghost use Rattle.floyd_declarators.specs.declared.tags.Tags.{Tags as Kept};
 ghost use Rattle.floyd_declarators.specs.Declarators.{name_of as name_of_lem, unless_among};
-ghost use Rattle.floyd_declarators.specs.Scopes.{names_in};
-ghost use Rattle.floyd_statements.specs.Locals.{nowhere as nowhere_lem, name_among as name_among_lem, storage_of as storage_of_lem, add_variable as add_variable_lem};
-ghost use Rattle.floyd_statements.specs.LocalParts.{variable_type as variable_type_lem, variable as variable_lem};
+ghost use Rattle.floyd_declarators.specs.Scopes.{left, names_in};
+ghost use Rattle.floyd_translation.specs.Behind.{behind, appended};
+ghost use Rattle.floyd_addresses.specs.Flags.{declarator_flags};
+ghost use Rattle.floyd_statements.specs.Locals.{nowhere as nowhere_lem, name_among as name_among_lem, storage_of as storage_of_lem, add_variable as add_variable_lem, declared as declared_lem, target_of as target_of_lem, initialised as initialised_lem, declarators as declarators_lem};
+ghost use Rattle.floyd_statements.specs.LocalParts.{beginning, declaration as declaration_lem, variable_type as variable_type_lem, variable as variable_lem, targets};
 
-use floyd_csyntax::{Declarator, Identifier};
+use crate::variables::declarator;
+use floyd_addresses::Flags;
+use floyd_clight::StmtList;
+use floyd_csyntax::{CExpr, Declarator, Identifier, LocalDeclaration, LocalDeclarator};
 use floyd_ctypes::CType;
+use floyd_ctyping::Operand;
 use floyd_declarators::{
-    Meaning, Names, Site, Storage, declarator_type, ill_typed, is_aggregate, is_object_type,
-    is_object_within, left_out, limit_site, name_of, name_or_none, name_site, redeclared,
+    Meaning, Names, Site, Storage, base_type, declarator_type, ill_typed, is_aggregate,
+    is_object_type, is_object_within, left_out, limit_site, name_of, name_or_none, name_site,
+    redeclared,
 };
-use floyd_text::{Halt, Name, Place};
-use floyd_translation::{NameList, Progress, kth_name};
+use floyd_effects::assign_first;
+use floyd_text::{Halt, Name, Place, Shared};
+use floyd_translation::{NameList, Progress, Translation, kth_name, variable_of};
 use std::alloc::{AllocError, Global};
 
 /// The site of a declarator without a name, which no variable has.
@@ -82,7 +91,7 @@ fn unless_here(names: &Names, d: &Declarator) -> Result<(), Halt>
 }
 
 /// The type that a declarator declares a variable of.
-pub(crate) fn variable_type(
+fn variable_type(
     alloc: Global,
     names: &Names,
     base: &CType,
@@ -111,7 +120,7 @@ pub(crate) fn variable_type(
 }
 
 /// The variable of that type.
-pub fn variable(
+fn variable(
     alloc: Global,
     d: &Declarator,
     t: CType,
@@ -130,4 +139,133 @@ pub fn variable(
         ctype: t,
         storage,
     })
+}
+
+/// A variable of the type that a declarator declares.
+pub(crate) fn declared(
+    alloc: Global,
+    names: &Names,
+    base: &CType,
+    d: &Declarator,
+    taken: bool,
+    progress: &mut Progress,
+) -> Result<Meaning, Halt>
+    ensures exact { Gives (λ m. (m, progress.new)) result (declared_lem names.now base.now d.now (λ x. taken) progress.old) }
+{
+    let t = variable_type(alloc, names, base, d, progress)?;
+    variable(alloc, d, t, taken, progress)
+}
+
+/// A variable as what is assigned to.
+fn variable_target(
+    alloc: Global,
+    storage: Storage,
+    called: &Name,
+    t: &CType,
+) -> Result<Translation, AllocError>
+    ensures { IfOk result (λ a. behind [] a ∷ [] ≡ target_of_lem (Variable called.now t.now storage)) }
+{
+    Ok(Translation {
+        expr: variable_of(storage, called.share()?, t.share(alloc)?),
+        operand: Operand::object(t.share(alloc)?),
+    })
+}
+
+/// The variable as what its initial value is assigned to.
+pub(crate) fn target_of(
+    alloc: Global,
+    meaning: &Meaning,
+) -> Result<Option<Shared<Translation>>, AllocError>
+    ensures { IfOk result (λ o. targets o ≡ target_of_lem meaning.now) }
+{
+    match meaning {
+        Meaning::Variable {
+            called,
+            ctype,
+            storage,
+        } => {
+            let target = variable_target(alloc, *storage, called, ctype)?;
+            Ok(Some(Shared::new(alloc, target)?))
+        }
+        Meaning::Type { .. } | Meaning::Function(_) => Ok(None),
+    }
+}
+
+/// A declaration with an initial value is the assignment at its place.
+pub(crate) fn initialised(
+    alloc: Global,
+    names: &Names,
+    target: &Option<Shared<Translation>>,
+    right: &Option<(Place, CExpr)>,
+    progress: &mut Progress,
+    out: &mut StmtList,
+) -> Result<(), Halt>
+    ensures exact { Gives (λ u. (out.new, progress.new)) result (appended out.old (initialised_lem names.now (targets target.now) right.now progress.old)) }
+{
+    match target {
+        Some(target) => match right {
+            Some((place, e)) => {
+                assign_first(alloc, names, *place, target.get(), e, progress, out)
+            }
+            None => Ok(()),
+        },
+        None => Ok(()),
+    }
+}
+
+/// The next flag. Where none is left, no address is taken.
+fn next_flag(flags: &mut Flags) -> bool
+    ensures { (flag : Bool) (more : List Bool) → flags.old ≡ flag ∷ more → (result ≡ flag) × (flags.new ≡ more) }
+{
+    match flags.pop_first() {
+        Some(flag) => flag,
+        None => false,
+    }
+}
+
+/// The variables of one base, with their flags before all others. They are in the innermost scope afterwards.
+fn declarators(
+    alloc: Global,
+    all: &[LocalDeclarator],
+    base: &CType,
+    names: &mut Names,
+    flags: &mut Flags,
+    progress: &mut Progress,
+    out: &mut StmtList,
+) -> Result<(), Halt>
+    ensures exact { (rest : List ℕ → Bool) (more : List Bool) → flags.old ≡ declarator_flags all.now rest ++ more → Gives (λ u. ((out.new, names.new), progress.new)) result (beginning out.old (declarators_lem names.old base.now all.now rest progress.old)) }
+    ensures flags { (rest : List ℕ → Bool) (more : List Bool) → flags.old ≡ declarator_flags all.now rest ++ more → OnOk result (flags.new ≡ more) }
+    ensures left { OnOk result (left names.new ≡ left names.old) }
+{
+    'declarators: for d in all {
+        let taken = next_flag(flags);
+        declarator(alloc, d, base, taken, names, progress, out)?;
+    }
+    Ok(())
+}
+
+/// A declaration of variables.
+pub(crate) fn declaration(
+    alloc: Global,
+    d: &LocalDeclaration,
+    names: &mut Names,
+    flags: &mut Flags,
+    progress: &mut Progress,
+    out: &mut StmtList,
+) -> Result<(), Halt>
+    ensures exact { (rest : List ℕ → Bool) (more : List Bool) → flags.old ≡ declarator_flags d.now.declarators rest ++ more → Gives (λ u. ((out.new, names.new), progress.new)) result (beginning out.old (declaration_lem names.old d.now rest progress.old)) }
+    ensures flags { (rest : List ℕ → Bool) (more : List Bool) → flags.old ≡ declarator_flags d.now.declarators rest ++ more → OnOk result (flags.new ≡ more) }
+    ensures left { OnOk result (left names.new ≡ left names.old) }
+{
+    let site = nowhere(alloc)?;
+    let base = base_type(alloc, names, &mut progress.tags, &site, &d.specifiers.base)?;
+    declarators(
+        alloc,
+        d.declarators.as_slice(),
+        &base,
+        names,
+        flags,
+        progress,
+        out,
+    )
 }
