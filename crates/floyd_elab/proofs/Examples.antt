@@ -31,7 +31,7 @@ use Rattle.floyd_clight.specs.declared.syntax.Expr.{Expr, Temp, Var}
 use Rattle.floyd_clight.specs.declared.syntax.Stmt.{Stmt, Set, Assign, If, Loop, Skip, Break, Seq, Return}
 use Rattle.floyd_translation.specs.Clight.{pulled_name, kth_name, deref_of, address_of, binary_of, zero, one}
 use Rattle.floyd_translation.specs.declared.progress.Progress.{Progress}
-use Rattle.floyd_translation.specs.Effects.{effect}
+use Rattle.floyd_effects.specs.Effects.{effect}
 use Rattle.floyd_statements.specs.Statements.{statement}
 use Rattle.floyd_elab.specs.Units.{elaborated, starting}
 

@@ -1,2 +1,13 @@
 pub mod Examples
 pub mod MoreExamples
+pub mod ScopeLemmas
+pub mod TableLemmas
+pub mod ParameterLemmas
+pub mod BodyLemmas
+pub mod UnitLemmas
+pub mod StepLemmas
+pub mod FollowLemmas
+pub mod SiteLemmas
+pub mod SourceLemmas
+pub mod FunctionLemmas
+pub mod DeclareLemmas

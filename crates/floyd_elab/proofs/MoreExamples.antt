@@ -24,7 +24,7 @@ use Rattle.floyd_clight.specs.declared.syntax.Expr.{Expr, Temp, Var}
 use Rattle.floyd_clight.specs.declared.syntax.Stmt.{Stmt, Set, Call}
 use Rattle.floyd_translation.specs.Clight.{pulled_name, deref_of, binary_of, cast_of, field_of, zero}
 use Rattle.floyd_translation.specs.declared.progress.Progress.{Progress}
-use Rattle.floyd_translation.specs.Effects.{effect}
+use Rattle.floyd_effects.specs.Effects.{effect}
 use Rattle.floyd_contents.specs.Contents.{contents}
 use Rattle.floyd_elab.specs.Units.{starting}
 

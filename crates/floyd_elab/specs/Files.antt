@@ -11,24 +11,14 @@ use Rattle.floyd_declarators.specs.declared.meaning.Storage.TheVariants as kept
 use Rattle.floyd_declarators.specs.declared.tags.Tags.{Tags}
 use Rattle.floyd_declarators.specs.Doing.{Doing}
 use Rattle.floyd_declarators.specs.Typing.{Typing}
-use Rattle.floyd_declarators.specs.Scopes.{Scope, Scopes}
+use Rattle.floyd_declarators.specs.Scopes.{Scopes}
 use Rattle.floyd_declarators.specs.Types.{same_type}
 use Rattle.floyd_ctyping.specs.Operators.{signature_of}
 use Rattle.floyd_clight.specs.declared.initial.Initial.{Initial}
 use Rattle.floyd_clight.specs.declared.unit.Declared.{Declared}
 use Rattle.floyd_clight.specs.declared.unit.Defined.{Defined}
 use Rattle.floyd_clight.specs.declared.unit.Variable.{Variable}
-
-pub record File : Type 0 where
-  pub tags : Tags
-  -- the names of the file, and what each stands for
-  pub scope : Scope
-  -- the variables that are defined, and each variable where it was first declared
-  pub defined : List Variable
-  pub mentioned : List Variable
-  -- the functions that are declared, and those with a body
-  pub functions : List Declared
-  pub bodies : List Defined
+use Rattle.floyd_elab.specs.declared.file.File.{File}
 
 abbrev pub Filing : Type 0 → Type 0
 Filing A = Doing File A

@@ -40,7 +40,8 @@ use Rattle.floyd_statements.specs.Locals.{nowhere}
 use Rattle.floyd_statements.specs.Statements.{body}
 use Rattle.floyd_contents.specs.Contents.{contents}
 use Rattle.floyd_contents.specs.Constant.{constant_at}
-use Rattle.floyd_elab.specs.Files.{File, Filing, top, typing, may_declare, has_variable, has_body, is_new, add_meaning, mention_variable, define_variable, mention_function, define_function}
+use Rattle.floyd_elab.specs.declared.file.File.{File}
+use Rattle.floyd_elab.specs.Files.{Filing, top, typing, may_declare, has_variable, has_body, is_new, add_meaning, mention_variable, define_variable, mention_function, define_function}
 
 -- Names at the top of a file.
 

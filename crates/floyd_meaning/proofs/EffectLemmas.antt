@@ -26,7 +26,7 @@ use Rattle.floyd_translation.specs.Clight.{Translated, cast_into, sequence, stor
 use Rattle.floyd_translation.specs.declared.progress.Progress.{Progress}
 use Rattle.floyd_translation.specs.Progress.{Elaborating, typing}
 use Rattle.floyd_translation.specs.Expressions.{read, translated, valued, prefixed, variable_of, binary_operator}
-use Rattle.floyd_translation.specs.Effects.{Calling, sent_to, as_target, updated, step_op, literal_one, stepped, passed, calling, right_side, assignment, effect}
+use Rattle.floyd_effects.specs.Effects.{Calling, sent_to, as_target, updated, step_op, literal_one, stepped, passed, calling, right_side, assignment, effect}
 use Rattle.floyd_addresses.specs.Addresses.{in_items, in_initialiser, in_declarators}
 use Rattle.floyd_statements.specs.Locals.{nowhere, declared, target_of, initialised, declarators}
 use Rattle.floyd_statements.specs.Statements.{test, loop_test, optional_test, optional_effect, returned, statement, items, body}

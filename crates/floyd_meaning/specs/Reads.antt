@@ -12,7 +12,7 @@ use Rattle.floyd_clight.specs.Evaluation.{Ident}
 use Rattle.floyd_translation.specs.Clight.{Translated, is_memory, pulled_name}
 use Rattle.floyd_translation.specs.declared.progress.Progress.{Progress}
 use Rattle.floyd_translation.specs.Expressions.{valued}
-use Rattle.floyd_translation.specs.Effects.{effect}
+use Rattle.floyd_effects.specs.Effects.{effect}
 use Rattle.floyd_statements.specs.Statements.{body}
 
 -- A number or a pointer is loaded from its place. An array, a function and a struct give their address, as `&` does.

@@ -1,0 +1,17 @@
+use Rattle.std.proofs.Common.{List, subst}
+use Rattle.floyd_ctypes.specs.declared.ctype.CType.{CType}
+use Rattle.floyd_csyntax.specs.declared.statements.BlockItem.{BlockItem}
+use Rattle.floyd_csyntax.specs.declared.statements.CStatement.{Block}
+use Rattle.floyd_clight.specs.declared.unit.Local.{Local}
+use Rattle.floyd_declarators.specs.Doing.{GivesWith}
+use Rattle.floyd_elab.specs.Units.{parameters_of as parameters_of_lem, bodied as bodied_lem}
+use Rattle.floyd_elab.proofs.headings.function_bodied.Goals as goal
+
+pub returns : goal.returns
+returns c =
+    subst (λ (r : CType). GivesWith (λ u. u) c.bodied.result c.bodied.new.file (bodied_lem c.args.i r (parameters_of_lem c.args.f.now.declarator c.args.t.now) (Block c.args.f.now.body) c.args.file.now))
+    c.in_ok-result_type.ensures
+    (subst (λ (ps : List Local). GivesWith (λ u. u) c.bodied.result c.bodied.new.file (bodied_lem c.args.i c.in_ok-result_type.result_type ps (Block c.args.f.now.body) c.args.file.now))
+    c.in_ok-parameters.ensures
+    (subst (λ (items : List BlockItem). GivesWith (λ u. u) c.bodied.result c.bodied.new.file (bodied_lem c.args.i c.in_ok-result_type.result_type c.in_ok-parameters.parameters (Block items) c.args.file.now))
+    c.as_slice.ensures c.bodied.ensures))

@@ -1,0 +1,24 @@
+use Rattle.std.proofs.Common.{Result, sym, subst}
+use Rattle.floyd_text.specs.declared.refusal.Refusal.{Refusal}
+use Rattle.floyd_declarators.specs.Doing.{GivesWith}
+use Rattle.floyd_elab.specs.declared.file.File.{File}
+use Rattle.floyd_elab.proofs.FunctionLemmas.{heading_stops, judge_stops, defined_as}
+use Rattle.floyd_elab.proofs.FollowLemmas.{stopped_with}
+use Rattle.floyd_elab.proofs.headings.function_defined.Goals as goal
+
+pub returns-in_err-t : goal.returns-in_err-t
+returns-in_err-t c =
+    stopped_with c.from_residual-in_err-t.result c.in_err-t.field-0.0 _ _ _ c.from_residual-in_err-t.ensures.1
+    (heading_stops c.args.f.now c.args.file.now c.in_err-t.field-0.0 c.in_err-t.ensures)
+
+pub returns-in_err-judge : goal.returns-in_err-judge
+returns-in_err-judge c =
+    stopped_with c.from_residual-in_err-judge.result c.in_err-judge.field-0.0 _ _ _ c.from_residual-in_err-judge.ensures.1
+    (judge_stops c.args.f.now c.in_ok-i.i c.in_ok-i.ensures c.args.file.now c.heading.new.file c.in_ok-t.t c.in_ok-t.ensures c.in_err-judge.field-0.0 c.in_err-judge.ensures)
+
+pub returns : goal.returns
+returns c =
+    subst (λ (wanted : Result (Unit {0} × File) Refusal). GivesWith (λ u. u) c.function_bodied.result c.function_bodied.new.file wanted)
+    (sym (defined_as c.args.f.now c.in_ok-i.i c.in_ok-i.ensures c.args.file.now c.heading.new.file c.in_ok-t.t c.in_ok-t.ensures
+    c.mention_function.new.file c.in_ok-judge.ensures c.in_ok-mention_function.ensures))
+    c.function_bodied.ensures

@@ -1,0 +1,18 @@
+use Rattle.std.proofs.Common.{rules, ◌≡◌, is_some, Ok, ap, sym, ◌∙◌}
+use Rattle.floyd_declarators.specs.declared.meaning.Meaning.TheVariants as m
+use Rattle.floyd_contents.specs.Constant.{constant_at as constant_at_lem}
+use Rattle.floyd_elab.specs.declared.file.File.{File}
+use Rattle.floyd_elab.specs.Files.{top, add_meaning}
+use Rattle.floyd_elab.proofs.DeclareLemmas.{typedef_stops, typedef_is}
+use Rattle.floyd_elab.proofs.FollowLemmas.{stopped_with}
+use Rattle.floyd_elab.proofs.typedefs.type_named.Goals as goal
+
+pub returns-in_err-judge_typedef : goal.returns-in_err-judge_typedef
+returns-in_err-judge_typedef c =
+    stopped_with c.from_residual.result c.in_err-judge_typedef.field-0.0 _ _ _ c.from_residual.ensures.1
+    (typedef_stops c.args.i.now c.args.t.now c.args.file.now c.args.specifiers.now c.args.base.now c.args.d.now c.in_err-judge_typedef.field-0.0 c.in_err-judge_typedef.ensures)
+
+pub returns : goal.returns
+returns c =
+    let added : c.add_type.new.file ≡ add_meaning c.args.i.now.name (m.Type c.args.t.now (is_some (constant_at_lem (top c.args.file.now) c.args.specifiers.now c.args.base.now c.args.d.now))) c.args.file.now = search rules in
+    typedef_is c.args.i.now c.args.t.now c.args.file.now c.args.specifiers.now c.args.base.now c.args.d.now c.in_ok-judge_typedef.ensures ∙ sym (ap (λ (s : File). Ok (tt, s)) added)
