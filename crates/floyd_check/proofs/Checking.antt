@@ -6,7 +6,7 @@ use Rattle.floyd_text.specs.declared.refusal.Halt.TheVariants.{Refused, Memory}
 use Rattle.floyd_text.specs.Gives.{Stops}
 use Rattle.floyd_lex.specs.declared.kinds.FileKind.TheVariants as kind
 use Rattle.floyd_project.specs.declared.module.Module.{Module}
-use Rattle.floyd_first.specs.declared.form.Main.{Main}
+use Rattle.floyd_clight.specs.declared.syntax.Stmt.{Stmt}
 use Rattle.floyd_first.specs.declared.form.Script.{Script}
 use Rattle.floyd_first.specs.Forms.{IsSpec, IsScript}
 use Rattle.floyd_goal.specs.Derivation.{main_start, played}
@@ -14,7 +14,7 @@ use Rattle.floyd_check.specs.FileReading.{ReadsFile, ReadsSource}
 use Rattle.floyd_check.specs.Loading.{modules_of}
 use Rattle.floyd_check.specs.declared.check.Accepted.{Accepted}
 use Rattle.floyd_check.specs.Checked.{Answers, program_of, Checks, ChecksModule, ChecksThree}
-use Rattle.floyd_check.specs.Verdict.{Program, Judges, JudgesModules, JudgesFiles, AreFiles, HasAllFiles, KeepLimits, statements_of, spec_of, proof_of, judged, then_program}
+use Rattle.floyd_check.specs.Verdict.{Program, Judges, JudgesModules, JudgesFiles, AreFiles, HasAllFiles, KeepLimits, spec_of, proof_of, judged, then_program}
 
 module _ (source spec script : List ℕ) where
   -- the source is refused
@@ -22,17 +22,17 @@ module _ (source spec script : List ℕ) where
   source_stops (Refused r) h = record { first = Err r; is_first = h; next = refl }
   source_stops Memory h = tt
 
-  module _ (m : Main) (reads_main : ReadsSource source (Ok m)) where
+  module _ (statements : List Stmt) (reads_main : ReadsSource source (Ok statements)) where
     -- the specification is
     pub spec_stops : (halt : Halt) → Answers (ReadsFile IsSpec kind.Spec 2 spec) (Err halt) → ChecksModule source spec script (Err halt)
-    spec_stops (Refused r) h = record { first = Ok m; is_first = reads_main; next = record { first = Err r; is_first = h; next = refl } }
+    spec_stops (Refused r) h = record { first = Ok statements; is_first = reads_main; next = record { first = Err r; is_first = h; next = refl } }
     spec_stops Memory h = tt
 
     module _ (n : ℕ) (reads_spec : ReadsFile IsSpec kind.Spec 2 spec (Ok n)) where
       -- the script is
       pub script_stops : (halt : Halt) → Answers (ReadsFile IsScript kind.Script 3 script) (Err halt) → ChecksModule source spec script (Err halt)
       script_stops (Refused r) h = record {
-        first = Ok m;
+        first = Ok statements;
         is_first = reads_main;
         next = record { first = Ok n; is_first = reads_spec; next = record { first = Err r; is_first = h; next = refl } };
       }
@@ -40,21 +40,21 @@ module _ (source spec script : List ℕ) where
 
       module _ (s : Script) (reads_script : ReadsFile IsScript kind.Script 3 script (Ok s)) where
         -- all three are read
-        judges_read : (v : Result Program Refusal) → v ≡ judged m n s → Judges source spec script v
+        judges_read : (v : Result Program Refusal) → v ≡ judged statements n s → Judges source spec script v
         judges_read v e = record {
-          first = Ok m;
+          first = Ok statements;
           is_first = reads_main;
           next = record { first = Ok n; is_first = reads_spec; next = record { first = Ok s; is_first = reads_script; next = e } };
         }
 
         -- the proof is refused
-        pub proof_stops : (halt : Halt) → Stops halt (played (proof_of s) (main_start (statements_of m) (spec_of n))) → ChecksModule source spec script (Err halt)
-        proof_stops (Refused r) h = judges_read (Err r) (sym (ap (then_program (record { main = m; value = n })) h))
+        pub proof_stops : (halt : Halt) → Stops halt (played (proof_of s) (main_start statements (spec_of n))) → ChecksModule source spec script (Err halt)
+        proof_stops (Refused r) h = judges_read (Err r) (sym (ap (then_program (record { statements = statements; value = n })) h))
         proof_stops Memory h = tt
 
         -- the proof plays through
-        pub accepts : played (proof_of s) (main_start (statements_of m) (spec_of n)) ≡ Ok tt → Judges source spec script (Ok (record { main = m; value = n }))
-        accepts e = judges_read (Ok (record { main = m; value = n })) (sym (ap (then_program (record { main = m; value = n })) e))
+        pub accepts : played (proof_of s) (main_start statements (spec_of n)) ≡ Ok tt → Judges source spec script (Ok (record { statements = statements; value = n }))
+        accepts e = judges_read (Ok (record { statements = statements; value = n })) (sym (ap (then_program (record { statements = statements; value = n })) e))
 
 pub all_files : (all : List (List ℕ)) (project : List ℕ) (files : List (List ℕ)) → AreFiles all → all ≡ project ∷ files → HasAllFiles (modules_of project) files × KeepLimits project files
 all_files all project files h e = subst AreFiles e h

@@ -10,11 +10,12 @@ use Rattle.floyd_lex.proofs.OneCut.{same_answer}
 use Rattle.floyd_cparse.specs.Source.{IsRead}
 use Rattle.floyd_cparse.proofs.SourceLemmas as source
 use Rattle.floyd_project.specs.declared.module.Module.{Module}
-use Rattle.floyd_first.specs.Forms.{IsMain, IsSpec, IsScript}
-use Rattle.floyd_first.proofs.MainForm.{same_main}
+use Rattle.floyd_first.specs.Forms.{IsSpec, IsScript}
 use Rattle.floyd_first.proofs.SpecForm.{same_spec}
 use Rattle.floyd_first.proofs.ScriptForm.{same_script}
-use Rattle.floyd_check.specs.FileReading.{Follows, Then, ReadsTokens, ReadsFile, ReadsSource}
+use Rattle.floyd_elab.specs.Units.{elaborated}
+use Rattle.floyd_first.specs.MainForm.{main_in}
+use Rattle.floyd_check.specs.FileReading.{Follows, Then, ReadsTokens, ReadsFile, ReadsSource, built}
 use Rattle.floyd_check.specs.Loading.{modules_of, loaded}
 use Rattle.floyd_check.specs.Verdict.{Program, judged, Judges, JudgesModules, JudgesFiles, JudgesLoaded, IsVerdict}
 
@@ -44,8 +45,9 @@ one_file Form kind file bytes one =
 one_source : (bytes : List ℕ) → IsOne (ReadsSource bytes)
 one_source bytes =
     one_then (IsCut kind.Source 1 bytes) _ (same_answer kind.Source 1 bytes)
-    (λ list. one_then (IsRead 1 bytes list) (λ tree. ReadsTokens IsMain 1 (tokens_in bytes list)) (source.one_reading 1 bytes list)
-    (λ tree. one_reading IsMain 1 (tokens_in bytes list) (same_main (tokens_in bytes list))))
+    (λ list. one_then (IsRead 1 bytes list) _ (source.one_reading 1 bytes list)
+    (λ tree. one_then (λ unit. unit ≡ elaborated tree) (λ unit v. v ≡ built (main_in unit)) (λ a b h k. h ∙ sym k)
+    (λ unit v w h k. h ∙ sym k)))
 
 one_module : (source spec script : List ℕ) → IsOne (Judges source spec script)
 one_module source spec script =

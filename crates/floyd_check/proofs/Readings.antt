@@ -1,5 +1,7 @@
 -- What a file reads as, by what its tokens are and read as.
-use Rattle.std.proofs.Common.{◌≡◌, ℕ, List, Option, Some, None, Ok, Err, refl, subst}
+use Rattle.std.proofs.Common.{◌≡◌, ℕ, List, Option, Some, None, Result, Ok, Err, refl, sym, ap, subst}
+use Rattle.floyd_text.specs.declared.refusal.Refusal.{Refusal}
+use Rattle.floyd_text.specs.Gives.{Stops}
 use Rattle.floyd_text.specs.declared.refusal.Halt.{Halt}
 use Rattle.floyd_text.specs.declared.refusal.Halt.TheVariants.{Refused, Memory}
 use Rattle.floyd_lex.specs.declared.kinds.FileKind.{FileKind}
@@ -10,10 +12,13 @@ use Rattle.floyd_lex.specs.declared.kinds.FileKind.TheVariants as kinds
 use Rattle.floyd_csyntax.specs.declared.declarations.CUnit.{CUnit}
 use Rattle.floyd_cparse.specs.Source as source
 use Rattle.floyd_cparse.specs.Source.{IsRead}
-use Rattle.floyd_first.specs.declared.form.Main.{Main}
-use Rattle.floyd_first.specs.Forms.{ReadsAs, IsMain}
+use Rattle.floyd_clight.specs.declared.syntax.Stmt.{Stmt}
+use Rattle.floyd_clight.specs.declared.unit.ClightUnit.{ClightUnit}
+use Rattle.floyd_elab.specs.Units.{elaborated}
+use Rattle.floyd_first.specs.Forms.{ReadsAs}
+use Rattle.floyd_first.specs.MainForm.{main_in}
 use Rattle.floyd_check.specs.Checked.{Answers}
-use Rattle.floyd_check.specs.FileReading.{Then, ReadsFile, ReadsSource, not_built}
+use Rattle.floyd_check.specs.FileReading.{Then, ReadsFile, ReadsSource, not_built, built}
 
 module _ {X : Type 0} (Form : List Token → X → Type 0) (kind : FileKind) (file : ℕ) (bytes : List ℕ) where
   -- its tokens are refused
@@ -42,10 +47,14 @@ module _ (bytes : List ℕ) where
     source_not_read Memory h = tt
 
     module _ (tree : CUnit) (read : IsRead 1 bytes list (Ok tree)) where
-      pub source_some : (o : Option Main) (m : Main) → ReadsAs (IsMain (tokens_in bytes list)) o → o ≡ Some m → ReadsSource bytes (Ok m)
-      source_some o m h e =
-          record { first = Ok list; is_first = cut; next = record { first = Ok tree; is_first = read; next = subst (ReadsAs (IsMain (tokens_in bytes list))) e h } }
+      read_tree : (v : Result (List Stmt) Refusal) → Then (λ unit. unit ≡ elaborated tree) (λ unit w. w ≡ built (main_in unit)) v → ReadsSource bytes v
+      read_tree v h = record { first = Ok list; is_first = cut; next = record { first = Ok tree; is_first = read; next = h } }
 
-      pub source_none : (o : Option Main) → ReadsAs (IsMain (tokens_in bytes list)) o → o ≡ None → ReadsSource bytes (Err (not_built 1))
-      source_none o h e =
-          record { first = Ok list; is_first = cut; next = record { first = Ok tree; is_first = read; next = (subst (ReadsAs (IsMain (tokens_in bytes list))) e h, refl) } }
+      -- it is not elaborated
+      pub source_not_elaborated : (halt : Halt) → Stops halt (elaborated tree) → Answers (ReadsSource bytes) (Err halt)
+      source_not_elaborated (Refused r) h = read_tree (Err r) (record { first = Err r; is_first = sym h; next = refl })
+      source_not_elaborated Memory h = tt
+
+      -- it is elaborated, and the unit is judged
+      pub source_judged : (unit : ClightUnit) (o : Option (List Stmt)) → elaborated tree ≡ Ok unit → o ≡ main_in unit → ReadsSource bytes (built o)
+      source_judged unit o h e = read_tree (built o) (record { first = Ok unit; is_first = sym h; next = ap built e })

@@ -15,7 +15,7 @@ Answers P (Err Memory) = Unit {0}
 
 -- the program that was accepted
 abbrev pub program_of : Accepted → Program
-program_of a = record { main = a.main; value = a.value }
+program_of a = record { statements = a.statements; value = a.value }
 
 -- the program is sound, and its one function is named as proved
 pub record IsAccepted (a : Accepted) : Type 0 where

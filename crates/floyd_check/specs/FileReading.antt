@@ -1,5 +1,5 @@
 -- What a file reads as, or its first refusal.
-use Rattle.std.specs.Prelude.{◌≡◌, ℕ, List, None, Result, Ok, Err}
+use Rattle.std.specs.Prelude.{◌≡◌, ℕ, List, Option, Some, None, Result, Ok, Err}
 use Rattle.floyd_text.specs.declared.refusal.Refusal.{Refusal}
 use Rattle.floyd_text.specs.Place.{first_place}
 use Rattle.floyd_lex.specs.declared.kinds.FileKind.{FileKind}
@@ -7,8 +7,10 @@ use Rattle.floyd_lex.specs.declared.kinds.FileKind.TheVariants as kind
 use Rattle.floyd_lex.specs.Cuts.{IsCut}
 use Rattle.floyd_lex.specs.Token.{Token, tokens_in}
 use Rattle.floyd_cparse.specs.Source.{IsRead}
-use Rattle.floyd_first.specs.declared.form.Main.{Main}
-use Rattle.floyd_first.specs.Forms.{ReadsAs, IsMain}
+use Rattle.floyd_clight.specs.declared.syntax.Stmt.{Stmt}
+use Rattle.floyd_elab.specs.Units.{elaborated}
+use Rattle.floyd_first.specs.Forms.{ReadsAs}
+use Rattle.floyd_first.specs.MainForm.{main_in}
 use Rattle.floyd_check.specs.Loading.{refused}
 
 -- what comes after what was had, and the refusal where it was not had
@@ -36,9 +38,16 @@ abbrev pub ReadsFile : {X : Type 0} → (List Token → X → Type 0) → FileKi
 ReadsFile Form kind file bytes =
     Then (IsCut kind file bytes) (λ list. ReadsTokens Form file (tokens_in bytes list))
 
--- A source is cut into tokens, these read as a tree of C, and then they are of a form that is built.
-abbrev pub ReadsSource : List ℕ → Result Main Refusal → Type 0
+-- the statements of main, unless the source is more than the form that is built
+abbrev pub built : Option (List Stmt) → Result (List Stmt) Refusal
+built None = Err (not_built 1)
+built (Some statements) = Ok statements
+
+-- A source is cut into tokens, these read as a tree of C, this is elaborated, and then the unit is judged: the source
+-- reads as the statements of its main.
+abbrev pub ReadsSource : List ℕ → Result (List Stmt) Refusal → Type 0
 ReadsSource bytes =
     Then (IsCut kind.Source 1 bytes) (λ list.
     Then (IsRead 1 bytes list) (λ tree.
-    ReadsTokens IsMain 1 (tokens_in bytes list)))
+    Then (λ unit. unit ≡ elaborated tree) (λ unit v.
+    v ≡ built (main_in unit))))

@@ -1,40 +1,28 @@
 -- The verdict on a project: it is accepted, or refused. The verdict looks at texts and derivations, and at no run.
-use Rattle.std.specs.Prelude.{◌≡◌, ℕ, ◌*◌, ◌≤◌, List, [], ◌∷◌, ◌++◌, map, length, codes, Some, Result, Ok, Err, All}
+use Rattle.std.specs.Prelude.{◌≡◌, ℕ, ◌*◌, ◌≤◌, List, [], ◌∷◌, map, length, codes, Result, Ok, Err, All}
 use Rattle.std.specs.List.{sum_by}
-use Rattle.floyd_int.specs.declared.kinds.Value.TheVariants.{Vint as VintValue}
 use Rattle.floyd_text.specs.declared.refusal.Refusal.{Refusal}
 use Rattle.floyd_text.specs.Outside.{Files}
 use Rattle.floyd_lex.specs.declared.kinds.FileKind.TheVariants as kind
 use Rattle.floyd_project.specs.declared.module.Module.{Module}
-use Rattle.floyd_clight.specs.declared.syntax.Expr.{Const, Temp}
-use Rattle.floyd_clight.specs.declared.syntax.Stmt.{Stmt, Set as SetStmt, Return as ReturnStmt}
+use Rattle.floyd_clight.specs.declared.syntax.Stmt.{Stmt}
 use Rattle.floyd_assert.specs.declared.funspec.Funspec.{Funspec}
 use Rattle.floyd_assert.specs.declared.funspec.Precondition.TheVariants.{Main as MainPre}
 use Rattle.floyd_assert.specs.declared.term.Term.{Number, Vint}
-use Rattle.floyd_runs.specs.Linked.{Linked, linked, int}
+use Rattle.floyd_runs.specs.Linked.{Linked, linked}
 use Rattle.floyd_goal.specs.declared.script.Command.{Command}
 use Rattle.floyd_goal.specs.declared.script.Proof.{Proof}
 use Rattle.floyd_goal.specs.Derivation.{main_start, played}
-use Rattle.floyd_first.specs.declared.form.Set.{Set}
-use Rattle.floyd_first.specs.declared.form.Main.{Main}
 use Rattle.floyd_first.specs.declared.form.Entry.{Entry}
 use Rattle.floyd_first.specs.declared.form.Script.{Script}
 use Rattle.floyd_first.specs.Forms.{IsSpec, IsScript}
 use Rattle.floyd_check.specs.FileReading.{Then, ReadsFile, ReadsSource}
 use Rattle.floyd_check.specs.Loading.{max_file, max_files, modules_of, loaded}
 
--- what the files of an accepted project say: what main does, and the number that it returns
+-- what the files of an accepted project say: the statements of main, and the number that it returns
 pub record Program : Type 0 where
-  pub main : Main
+  pub statements : List Stmt
   pub value : ℕ
-
--- x = n ;
-abbrev pub statement_of : Set → Stmt
-statement_of s = SetStmt s.name (Const (VintValue s.value) int)
-
--- the statements of main's body
-abbrev pub statements_of : Main → List Stmt
-statements_of m = map statement_of m.sets ++ ReturnStmt (Some (Temp m.returned int)) ∷ []
 
 -- main is called with no arguments and no memory, and returns the int n
 abbrev pub spec_of : ℕ → Funspec
@@ -42,7 +30,7 @@ spec_of n = record { pre = MainPre; post = record { prop = []; local = []; sep =
 
 -- the linked program that the files stand for
 abbrev pub linked_of : Program → Linked
-linked_of p = linked (statements_of p.main) (spec_of p.value)
+linked_of p = linked p.statements (spec_of p.value)
 
 -- the commands of the proof of main
 abbrev pub command_of : Entry → Command
@@ -56,17 +44,17 @@ then_program p (Ok u) = Ok p
 then_program p (Err r) = Err r
 
 -- the proof is played on the start that source and specification give
-abbrev pub judged : Main → ℕ → Script → Result Program Refusal
-judged m n s =
-    then_program (record { main = m; value = n }) (played (proof_of s) (main_start (statements_of m) (spec_of n)))
+abbrev pub judged : List Stmt → ℕ → Script → Result Program Refusal
+judged statements n s =
+    then_program (record { statements = statements; value = n }) (played (proof_of s) (main_start statements (spec_of n)))
 
 -- The verdict on the three files of a module: first the source is read, then the specification, then the script, and
 -- then the proof is played. The first refusal is the verdict.
 abbrev pub Judges : List ℕ → List ℕ → List ℕ → Result Program Refusal → Type 0
 Judges source spec script =
-    Then (ReadsSource source) (λ m.
+    Then (ReadsSource source) (λ statements.
     Then (ReadsFile IsSpec kind.Spec 2 spec) (λ n.
-    Then (ReadsFile IsScript kind.Script 3 script) (λ s v. v ≡ judged m n s)))
+    Then (ReadsFile IsScript kind.Script 3 script) (λ s v. v ≡ judged statements n s)))
 
 -- the verdict on the files of the modules
 abbrev pub JudgesModules : Result (List Module) Refusal → List (List ℕ) → Result Program Refusal → Type 0

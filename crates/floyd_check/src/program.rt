@@ -2,34 +2,22 @@ ghost use Rattle.std.specs.Prelude.{◌≡◌, IfOk, map, codes};
 ghost use Rattle.floyd_check.specs.Verdict as spec;
 
 use floyd_assert::{Assertion, Funspec, Locals, Precondition, Term};
-use floyd_clight::{Expr, Stmt, StmtList};
-use floyd_ctypes::CType;
-use floyd_first::{Entry, Main, Script, Set};
+use floyd_clight::{Stmt, StmtList};
+use floyd_first::{Entry, Script};
 use floyd_goal::{Command, CommandList, Proof};
-use floyd_int::{IntKind, Value};
 use floyd_text::Name;
 use sqlite_items::Items;
 use std::alloc::{AllocError, Global};
 
-/// The statement of an assignment.
-fn statement_of(set: &Set) -> Result<Stmt, AllocError>
-    ensures { IfOk result (λ s. s ≡ spec.statement_of set.now) }
+/// The same statements.
+pub(crate) fn shared_statements(alloc: Global, statements: &[Stmt]) -> Result<StmtList, AllocError>
+    ensures { IfOk result (λ all. all ≡ statements.now) }
 {
-    let constant = Expr::Const(Value::Vint(set.value), CType::Int(IntKind::I32));
-    Ok(Stmt::Set(set.name.share()?, constant))
-}
-
-/// The statements of main's body.
-pub(crate) fn statements_of(alloc: Global, main: &Main) -> Result<StmtList, AllocError>
-    ensures { IfOk result (λ ss. ss ≡ spec.statements_of main.now) }
-{
-    let mut statements = Items::new(alloc);
-    'set: for set in main.sets.as_slice() {
-        statements.push(statement_of(set)?)?;
+    let mut all = Items::new(alloc);
+    'statements: for statement in statements {
+        all.push(statement.share(alloc)?)?;
     }
-    let returned = Expr::Temp(main.returned.share()?, CType::Int(IntKind::I32));
-    statements.push(Stmt::Return(Some(returned)))?;
-    Ok(statements)
+    Ok(all)
 }
 
 /// The specification of a main that returns this int.

@@ -1,4 +1,4 @@
-//! The three files of a module, cut into tokens and read.
+//! The three files of a module, cut into tokens and read, and a source elaborated.
 ghost use Rattle.std.specs.Prelude.{◌≡◌, ◌≤◌, length};
 ghost use Rattle.floyd_lex.specs.declared.kinds.FileKind.TheVariants as kind;
 ghost use Rattle.floyd_first.specs.Forms.{IsScript, IsSpec};
@@ -8,8 +8,10 @@ ghost use Rattle.floyd_check.specs.FileReading.{ReadsFile, ReadsSource};
 ghost use Rattle.floyd_check.specs.Loading.{max_file};
 
 use crate::modules::{first_place, refused};
+use floyd_clight::StmtList;
 use floyd_cparse::parse;
-use floyd_first::{Main, Script, read_main, read_script, read_spec};
+use floyd_elab::elaborate;
+use floyd_first::{Script, main_in, read_script, read_spec};
 use floyd_lex::{FileKind, tokens};
 use floyd_text::{Halt, Refusal};
 use std::alloc::Global;
@@ -21,15 +23,16 @@ fn not_built(file: u32) -> Refusal
     refused(199, first_place(file))
 }
 
-/// The `main` that a source is.
-pub(crate) fn source_in(alloc: Global, bytes: &[u8]) -> Result<Main, Halt>
+/// The statements of the `main` that a source is.
+pub(crate) fn source_in(alloc: Global, bytes: &[u8]) -> Result<StmtList, Halt>
     requires { length bytes.now ≤ max_file }
     ensures { Answers (ReadsSource bytes.now) result }
 {
     let list = tokens(alloc, FileKind::Source, 1, bytes)?;
-    parse(alloc, 1, bytes, &list)?;
-    match read_main(alloc, bytes, &list)? {
-        Some(main) => Ok(main),
+    let tree = parse(alloc, 1, bytes, &list)?;
+    let unit = elaborate(alloc, 1, &tree)?;
+    match main_in(alloc, &unit)? {
+        Some(statements) => Ok(statements),
         None => Err(Halt::Refused(not_built(1))),
     }
 }

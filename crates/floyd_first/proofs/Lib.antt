@@ -1,5 +1,5 @@
 pub mod LeftLemmas
-pub mod MainForm
+pub mod MainLemmas
 pub mod Numerals
 pub mod ScriptForm
 pub mod SpecForm

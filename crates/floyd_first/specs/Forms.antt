@@ -1,72 +1,16 @@
--- The three forms, as relations on the tokens of a file.
-use Rattle.std.specs.Prelude.{◌≡◌, ℕ, Bool, true, false, ◌&&◌, ◌≤◌, nat_le, not, bytes_eq, List, [], ◌∷◌, ◌++◌, map, codes, if◌then◌else◌, Option, Some, None}
+-- The forms of a specification and a script, as relations on the tokens of a file.
+use Rattle.std.specs.Prelude.{◌≡◌, ℕ, ◌≤◌, bytes_eq, List, [], ◌∷◌, ◌++◌, map, codes, if◌then◌else◌, Option, Some, None}
 use Rattle.std.specs.Fmt.{decimal}
-use Rattle.std.specs.List.{list_any, list_all, flat_map}
 use Rattle.floyd_text.specs.declared.refusal.Rule.TheVariants.{Forward, Cancel}
 use Rattle.floyd_text.specs.declared.refusal.Rule.{Rule}
 use Rattle.floyd_text.specs.declared.place.Place.{Place}
-use Rattle.floyd_lex.specs.Classes.{is_letter, is_word}
 use Rattle.floyd_lex.specs.Token.{Token}
-use Rattle.floyd_first.specs.declared.form.Set.{Set}
-use Rattle.floyd_first.specs.declared.form.Main.{Main}
 use Rattle.floyd_first.specs.declared.form.Entry.{Entry}
 use Rattle.floyd_first.specs.declared.form.Script.{Script}
-
--- the words that are no names in C: those of its grammar, of the types of integers, and of what is left out
-abbrev pub words_of_c : List (List ℕ)
-words_of_c =
-    codes "typedef" ∷ codes "extern" ∷ codes "const" ∷ codes "void" ∷ codes "struct" ∷ codes "if" ∷ codes "else" ∷ codes "while"
-    ∷ codes "do" ∷ codes "for" ∷ codes "break" ∷ codes "continue" ∷ codes "return"
-    ∷ codes "char" ∷ codes "short" ∷ codes "int" ∷ codes "long" ∷ codes "signed" ∷ codes "unsigned"
-    ∷ codes "float" ∷ codes "double" ∷ codes "union" ∷ codes "enum" ∷ codes "static" ∷ codes "volatile" ∷ codes "register"
-    ∷ codes "inline" ∷ codes "restrict" ∷ codes "goto" ∷ codes "switch" ∷ codes "asm" ∷ codes "_Bool"
-    ∷ codes "sizeof" ∷ codes "case" ∷ codes "default" ∷ []
-
--- letters, digits and `_`, no digit first
-abbrev pub is_identifier : List ℕ → Bool
-is_identifier [] = false
-is_identifier (b ∷ bs) = is_letter b && list_all is_word bs
-
--- a name of a variable
-abbrev pub is_name : List ℕ → Bool
-is_name text = is_identifier text && not (list_any (bytes_eq text) words_of_c)
 
 -- the texts of tokens
 abbrev pub texts : List Token → List (List ℕ)
 texts ts = map (λ (t : Token). t.text) ts
-
--- `int x ;`
-abbrev pub declaration : List ℕ → List (List ℕ)
-declaration name = codes "int" ∷ name ∷ codes ";" ∷ []
-
--- `x = n ;`
-abbrev pub assignment : Set → List (List ℕ)
-assignment s = s.name ∷ codes "=" ∷ decimal s.value ∷ codes ";" ∷ []
-
--- the texts of `int main ( void ) { .. return x ; }`
-abbrev pub main_texts : Main → List (List ℕ)
-main_texts m =
-    (codes "int" ∷ codes "main" ∷ codes "(" ∷ codes "void" ∷ codes ")" ∷ codes "{" ∷ [])
-    ++ flat_map declaration m.declared ++ flat_map assignment m.sets
-    ++ (codes "return" ∷ m.returned ∷ codes ";" ∷ codes "}" ∷ [])
-
--- none of them stands again behind itself
-abbrev pub are_distinct : List (List ℕ) → Bool
-are_distinct [] = true
-are_distinct (name ∷ names) = not (list_any (bytes_eq name) names) && are_distinct names
-
--- Each name is a name and declared once, each assigned one is declared, the returned one is assigned, and each
--- constant is an int. So there is a declaration and an assignment.
-abbrev pub is_well_formed : Main → Bool
-is_well_formed m =
-    list_all is_name m.declared && are_distinct m.declared
-    && list_all (λ (s : Set). list_any (bytes_eq s.name) m.declared) m.sets
-    && list_any (λ (s : Set). bytes_eq s.name m.returned) m.sets
-    && list_all (λ (s : Set). nat_le s.value 2147483647) m.sets
-
--- the tokens are the source of this `main`
-abbrev pub IsMain : List Token → Main → Type 0
-IsMain ts m = (texts ts ≡ main_texts m) × (is_well_formed m ≡ true)
 
 -- the texts of `DECLARE main PRE [] MAIN_PRE POST [int] PROP () RETURN (Vint(n)) SEP ();`
 abbrev pub spec_texts : ℕ → List (List ℕ)

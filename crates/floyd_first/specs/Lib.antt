@@ -1,3 +1,4 @@
 pub mod Forms
 pub mod Left
+pub mod MainForm
 pub mod Reading

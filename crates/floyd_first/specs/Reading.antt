@@ -1,15 +1,12 @@
--- What the tokens of the three forms read as, one after the other.
+-- What the tokens of the two forms read as, one after the other.
 use Rattle.std.specs.Prelude.{ℕ, Bool, true, false, ◌==◌, ◌&&◌, not, nat_le, bytes_eq, if◌then◌else◌, List, [], ◌∷◌, ◌++◌, Option, Some, None, codes}
-use Rattle.std.specs.List.{list_any, list_all}
-use Rattle.std.specs.Option.{option_map}
+use Rattle.std.specs.List.{list_all}
 use Rattle.std.specs.Str.Parse.{digits_value}
 use Rattle.floyd_text.specs.declared.refusal.Rule.{Rule}
 use Rattle.floyd_lex.specs.Token.{Token}
-use Rattle.floyd_first.specs.declared.form.Set.{Set}
-use Rattle.floyd_first.specs.declared.form.Main.{Main}
 use Rattle.floyd_first.specs.declared.form.Entry.{Entry}
 use Rattle.floyd_first.specs.declared.form.Script.{Script}
-use Rattle.floyd_first.specs.Forms.{is_name, rule_of}
+use Rattle.floyd_first.specs.Forms.{rule_of}
 
 -- what follows these texts
 abbrev pub after_all : List (List ℕ) → List (List ℕ) → Option (List (List ℕ))
@@ -33,56 +30,9 @@ small n = if nat_le n 2147483647 then Some n else None
 abbrev pub int_of : List ℕ → Option ℕ
 int_of text = if is_numeral text then small (digits_value 10 text) else None
 
-abbrev pub can_declare : List (List ℕ) → List ℕ → Bool
-can_declare declared name = is_name name && not (list_any (bytes_eq name) declared)
-
--- the assignment of these four texts
-abbrev pub set_of : List (List ℕ) → List ℕ → List ℕ → List ℕ → List ℕ → Option Set
-set_of declared name equals value semicolon =
-    if list_any (bytes_eq name) declared && bytes_eq equals (codes "=") && bytes_eq semicolon (codes ";")
-    then option_map (λ n. record { name = name; value = n }) (int_of value)
-    else None
-
 abbrev pub is_nil : List (List ℕ) → Bool
 is_nil [] = true
 is_nil (t ∷ ts) = false
-
--- the end of a `main` that returns this variable
-abbrev pub ending : List (List ℕ) → List Set → List ℕ → Bool → Option Main
-ending declared sets name closed =
-    if closed && list_any (λ (s : Set). bytes_eq s.name name) sets
-    then Some (record { declared = declared; sets = sets; returned = name })
-    else None
-
-abbrev pub with_set : (Set → Option Main) → Option Set → Option Main
-with_set rest None = None
-with_set rest (Some s) = rest s
-
--- the `main` whose assignments go on so
-abbrev pub sets_from : List (List ℕ) → List Set → List (List ℕ) → Option Main
-sets_from declared sets (a ∷ b ∷ c ∷ d ∷ ts) =
-    if bytes_eq a (codes "return")
-    then ending declared sets b (bytes_eq c (codes ";") && bytes_eq d (codes "}") && is_nil ts)
-    else with_set (λ s. sets_from declared (sets ++ s ∷ []) ts) (set_of declared a b c d)
-sets_from declared sets short = None
-
--- the `main` whose declarations go on so
-abbrev pub main_from : List (List ℕ) → List (List ℕ) → Option Main
-main_from declared (a ∷ b ∷ c ∷ ts) =
-    if bytes_eq a (codes "int")
-    then (if bytes_eq c (codes ";") && can_declare declared b then main_from (declared ++ b ∷ []) ts else None)
-    else sets_from declared [] (a ∷ b ∷ c ∷ ts)
-main_from declared short = None
-
-abbrev pub main_head : List (List ℕ)
-main_head = codes "int" ∷ codes "main" ∷ codes "(" ∷ codes "void" ∷ codes ")" ∷ codes "{" ∷ []
-
-abbrev pub main_after : Option (List (List ℕ)) → Option Main
-main_after None = None
-main_after (Some ts) = main_from [] ts
-
-abbrev pub main_of : List (List ℕ) → Option Main
-main_of ts = main_after (after_all main_head ts)
 
 abbrev pub spec_head : List (List ℕ)
 spec_head =

@@ -1,23 +1,5 @@
-use floyd_text::{Name, Place, Rule};
+use floyd_text::{Place, Rule};
 use sqlite_items::Items;
-
-/// Names in the order of the text.
-pub type NameList = Items<Name>;
-
-/// An assignment of a constant to a variable.
-#[derive(Debug, Drop)]
-pub struct Set {
-    pub name: Name,
-    pub value: u32,
-}
-
-/// A source of the first form: the variables that `main` declares, its assignments, and the variable that it returns.
-#[derive(Debug, Drop)]
-pub struct Main {
-    pub declared: NameList,
-    pub sets: Items<Set>,
-    pub returned: Name,
-}
 
 /// A command of a script, and its place.
 #[derive(Debug, Drop)]

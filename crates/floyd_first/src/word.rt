@@ -1,53 +1,13 @@
-//! Texts that are expected, names and numerals.
-ghost use Rattle.std.specs.Prelude.{◌≡◌, map, bytes_eq, IsTrue};
-ghost use Rattle.std.specs.List.{list_any, list_all};
+//! Texts that are expected, and numerals.
+ghost use Rattle.std.specs.Prelude.{◌≡◌, map, IsTrue};
+ghost use Rattle.std.specs.List.{list_all};
 ghost use Rattle.std.specs.Option.{option_map};
 ghost use Rattle.std.specs.Str.Parse.{digits_value};
-ghost use Rattle.floyd_lex.specs.Classes.{is_letter, is_word};
-ghost use Rattle.floyd_first.specs.Forms.{is_identifier, is_name, texts, words_of_c};
+ghost use Rattle.floyd_first.specs.Forms.{texts};
 ghost use Rattle.floyd_first.specs.Left.{left};
 ghost use Rattle.floyd_first.specs.Reading.{after_all, is_digit, is_numeral, small, int_of};
 
 use crate::left::{Left, first_token};
-
-/// The words that are no names in C.
-const WORDS_OF_C: [&[u8]; 35] = [
-    b"typedef",
-    b"extern",
-    b"const",
-    b"void",
-    b"struct",
-    b"if",
-    b"else",
-    b"while",
-    b"do",
-    b"for",
-    b"break",
-    b"continue",
-    b"return",
-    b"char",
-    b"short",
-    b"int",
-    b"long",
-    b"signed",
-    b"unsigned",
-    b"float",
-    b"double",
-    b"union",
-    b"enum",
-    b"static",
-    b"volatile",
-    b"register",
-    b"inline",
-    b"restrict",
-    b"goto",
-    b"switch",
-    b"asm",
-    b"_Bool",
-    b"sizeof",
-    b"case",
-    b"default",
-];
 
 /// What follows these texts, none where the tokens begin with other ones.
 pub fn after_all<'a>(tokens: Left<'a>, words: &[&[u8]]) -> Option<Left<'a>>
@@ -66,51 +26,6 @@ pub fn after_all<'a>(tokens: Left<'a>, words: &[&[u8]]) -> Option<Left<'a>>
         }
     }
     Some(rest)
-}
-
-fn is_among(text: &[u8], words: &[&[u8]]) -> bool
-    ensures { result ≡ list_any (λ w. bytes_eq text.now w.now) words.now }
-{
-    words.iter().any(|word| text == *word)
-}
-
-fn is_word_of_c(text: &[u8]) -> bool
-    ensures { result ≡ list_any (bytes_eq text.now) words_of_c }
-{
-    is_among(text, WORDS_OF_C.as_slice())
-}
-
-fn is_letter(b: u8) -> bool
-    ensures { result ≡ is_letter b }
-{
-    b.is_ascii_alphabetic() || b == b'_'
-}
-
-fn is_word(b: u8) -> bool
-    ensures { result ≡ is_word b }
-{
-    is_letter(b) || b.is_ascii_digit()
-}
-
-fn are_of_words(bytes: &[u8]) -> bool
-    ensures { result ≡ list_all is_word bytes.now }
-{
-    bytes.iter().all(|b| is_word(*b))
-}
-
-fn is_identifier(text: &[u8]) -> bool
-    ensures { result ≡ is_identifier text.now }
-{
-    match text {
-        [b, rest @ ..] => is_letter(*b) && are_of_words(rest),
-        [] => false,
-    }
-}
-
-pub fn is_name(text: &[u8]) -> bool
-    ensures { result ≡ is_name text.now }
-{
-    is_identifier(text) && !is_word_of_c(text)
 }
 
 fn is_digit(b: u8) -> bool
