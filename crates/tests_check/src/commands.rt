@@ -14,9 +14,12 @@ const SPEC: &str = "DECLARE main PRE [] MAIN_PRE POST [int] PROP () RETURN (Vint
 
 const TWO: &str = "DECLARE main PRE [] MAIN_PRE POST [int] PROP () RETURN (Vint(2)) SEP ();\n";
 
+const LETTER: &str = "DECLARE main PRE [] MAIN_PRE POST [int] PROP () RETURN (Vint(97)) SEP ();\n";
+
 const SCRIPT: &str = "PROOF main\nforward;\nforward;\ncancel;\nQED\n";
 
 /// The files of a project `one.fpj`, and what `check one.fpj` writes of them.
+#[derive(Clone, Copy)]
 struct Case {
     project: &'static str,
     source: &'static str,
@@ -25,7 +28,7 @@ struct Case {
     text: &'static str,
 }
 
-static CASES: [Case; 42] = [
+static CASES: [Case; 33] = [
     Case {
         project: PROJECT,
         source: SOURCE,
@@ -81,83 +84,6 @@ static CASES: [Case; 42] = [
         spec: SPEC,
         script: "PROOF main forward;forward;forward;forward;cancel;QED",
         text: "proved main\naccepted\n",
-    },
-    Case {
-        project: PROJECT,
-        source: "int main(void){int x; x=01; return x;}",
-        spec: SPEC,
-        script: SCRIPT,
-        text: "one.c:1:1: 199 NotBuilt\n",
-    },
-    Case {
-        project: PROJECT,
-        source: "int main(void){int x; x=2147483648; return x;}",
-        spec: SPEC,
-        script: SCRIPT,
-        text: "one.c:1:1: 199 NotBuilt\n",
-    },
-    Case {
-        project: PROJECT,
-        source: "int main(void){int x; int x; x=1; return x;}",
-        spec: SPEC,
-        script: SCRIPT,
-        text: "one.c:1:1: 199 NotBuilt\n",
-    },
-    Case {
-        project: PROJECT,
-        source: "int main(void){int x; int y; x=1; return y;}",
-        spec: SPEC,
-        script: SCRIPT,
-        text: "one.c:1:1: 199 NotBuilt\n",
-    },
-    Case {
-        project: PROJECT,
-        source: "int main(void){int x; y=1; return y;}",
-        spec: SPEC,
-        script: SCRIPT,
-        text: "one.c:1:1: 199 NotBuilt\n",
-    },
-    Case {
-        project: PROJECT,
-        source: "int main(void){int case; case=1; return case;}",
-        spec: SPEC,
-        script: SCRIPT,
-        text: "one.c:1:20: 301 Unexpected\n",
-    },
-    Case {
-        project: PROJECT,
-        source: "intmain(void){int x; x=1; return x;}",
-        spec: SPEC,
-        script: SCRIPT,
-        text: "one.c:1:1: 301 Unexpected\n",
-    },
-    Case {
-        project: PROJECT,
-        source: "int main(void) { return 1 }",
-        spec: SPEC,
-        script: SCRIPT,
-        text: "one.c:1:27: 301 Unexpected\n",
-    },
-    Case {
-        project: PROJECT,
-        source: "float f;",
-        spec: SPEC,
-        script: SCRIPT,
-        text: "one.c:1:1: 303 OutOfProfile name float\n",
-    },
-    Case {
-        project: PROJECT,
-        source: "typedef int T; int f(int T);",
-        spec: SPEC,
-        script: SCRIPT,
-        text: "one.c:1:26: 304 TypedefShadowed name T\n",
-    },
-    Case {
-        project: PROJECT,
-        source: "int main(void){int x; x=((((((((((((((((((((((((((((((((((((((((((((((((((((((((((((((((((((((((((((((((((((((((((((((((((((((((((((((((((((((((((((((((((((((((((((((((((((((((((((((((((((((((((((((((((((((((((((((((((((((((1)))))))))))))))))))))))))))))))))))))))))))))))))))))))))))))))))))))))))))))))))))))))))))))))))))))))))))))))))))))))))))))))))))))))))))))))))))))))))))))))))))))))))))))))))))))))))))))))))))))))); return x;}",
-        spec: SPEC,
-        script: SCRIPT,
-        text: "one.c:1:224: 302 TooDeep\n",
     },
     Case {
         project: PROJECT,
@@ -320,7 +246,68 @@ static CASES: [Case; 42] = [
         script: SCRIPT,
         text: "proved main\naccepted\n",
     },
+    Case {
+        project: PROJECT,
+        source: "int main(void){int x; x=7; {int x; x=1; return x;}}",
+        spec: SPEC,
+        script: "PROOF main forward;forward;forward;cancel;QED",
+        text: "proved main\naccepted\n",
+    },
+    Case {
+        project: PROJECT,
+        source: "int main(void){int x; x='a'; return x;}",
+        spec: LETTER,
+        script: SCRIPT,
+        text: "proved main\naccepted\n",
+    },
 ];
+
+/// Sources, each with what `check one.fpj` writes of it beside the first case's specification and script.
+const SOURCES: &str = "int main(void){int x; x=01; return x;}#accepted
+int main(void){int x; x=2147483648; return x;}#one.c:1:1: 199 NotBuilt
+int main(void){int x; int x; x=1; return x;}#one.c:1:27: 403 Redeclared name x
+int main(void){int x; int y; x=1; return y;}#one.c:1:1: 199 NotBuilt
+int main(void){int x; y=1; return y;}#one.c:1:23: 402 Undeclared name y
+int main(void){int case; case=1; return case;}#one.c:1:20: 301 Unexpected
+intmain(void){int x; x=1; return x;}#one.c:1:1: 301 Unexpected
+int main(void) { return 1 }#one.c:1:27: 301 Unexpected
+float f;#one.c:1:1: 303 OutOfProfile name float
+typedef int T; int f(int T);#one.c:1:26: 304 TypedefShadowed name T
+int main(void){int x; x=((((((((((((((((((((((((((((((((((((((((((((((((((((((((((((((((((((((((((((((((((((((((((((((((((((((((((((((((((((((((((((((((((((((((((((((((((((((((((((((((((((((((((((((((((((((((((((((((((((((((1)))))))))))))))))))))))))))))))))))))))))))))))))))))))))))))))))))))))))))))))))))))))))))))))))))))))))))))))))))))))))))))))))))))))))))))))))))))))))))))))))))))))))))))))))))))))))))))))))))))))); return x;}#one.c:1:224: 302 TooDeep
+int main(void){int x; int y; x = y = 1; return x;}#one.c:1:36: 404 NestedEffect
+int main(void){int x; x=1; return;}#one.c:1:28: 401 IllTyped
+int main(void){int x; x=z; return x;}#one.c:1:25: 402 Undeclared name z
+int main; int main(void){int x; x=1; return x;}#one.c:1:15: 403 Redeclared name main
+int main(void){int x; int *p; x=(int)p; return x;}#one.c:1:33: 405 BadCast
+int f(int a){int *p; p=&a; return 0;}#one.c:1:24: 303 OutOfProfile name &
+int main(void){int x; x=1; return x;} const int y;#one.c:1:39: 303 OutOfProfile name const
+typedef int number; number main(void){number x; x=1; return x;}#accepted
+int main(void){int x = 1; return x;}#accepted
+int main(void){int x; x=((0x1)); ; return (x);}#accepted
+int f(void){int x; x=1; return x;} int main(void){int x; x=1; return x;}#one.c:1:1: 199 NotBuilt
+int f(void); int main(void){int x; x=1; return x;}#one.c:1:1: 199 NotBuilt
+int f(void){int x; x=1; return x;}#one.c:1:1: 199 NotBuilt
+int y; int main(void){int x; x=1; return x;}#one.c:1:1: 199 NotBuilt
+typedef struct s {int a;} pair; int main(void){int x; x=1; return x;}#one.c:1:1: 199 NotBuilt
+int main(int a){int x; x=1; return x;}#one.c:1:1: 199 NotBuilt
+unsigned main(void){unsigned x; x=1u; return x;}#one.c:1:1: 199 NotBuilt
+int main(void){unsigned x; x=1u; return x;}#one.c:1:1: 199 NotBuilt
+int main(void){int x; unsigned y; x=1; return x;}#one.c:1:1: 199 NotBuilt
+int main(void){int x; int a[2]; x=1; return x;}#one.c:1:1: 199 NotBuilt
+int main(void){int x; int y; x=1; y=x; return x;}#one.c:1:1: 199 NotBuilt
+int main(void){int x; x=-1; return x;}#one.c:1:1: 199 NotBuilt
+int main(void){int x; x=1; if (x) x=1; return x;}#one.c:1:1: 199 NotBuilt
+int main(void){int x; x=1;}#one.c:1:1: 199 NotBuilt
+int main(void){int x; x=(((((((((((((((((((((((((((((((((((((((((((((((((((((((((((((((((((((((((((((((((((((((((((((((((((((((((((((((((((((((((((((((((((((((((((((((((((((((((((((((((((((((((((((((((((((((((((((((((((((((1))))))))))))))))))))))))))))))))))))))))))))))))))))))))))))))))))))))))))))))))))))))))))))))))))))))))))))))))))))))))))))))))))))))))))))))))))))))))))))))))))))))))))))))))))))))))))))))))))))))); return x;}#accepted
+int main(void); int main(void){int x; x=1; return x;}#accepted
+struct s; int main(void){int x; x=1; return x;}#accepted
+int main(void){const int x = 1; return x;}#accepted
+extern int y; int main(void){int x; x=1; return x;}#one.c:1:1: 199 NotBuilt
+int main(void){int x; x=(int)1; return x;}#one.c:1:1: 199 NotBuilt
+int main(void){int x; x=1; return x; x=1;}#one.c:1:1: 199 NotBuilt
+int main(void){int x; x=1; return x;} int main(void){int x; x=1; return x;}#one.c:1:43: 403 Redeclared name main
+char a[4294967296]; int main(void){int x; x=1; return x;}#one.c:1:6: 303 OutOfProfile name a
+struct s {int a;}; int main(void){struct s t; t.b=1; return 0;}#one.c:1:49: 402 Undeclared name b";
 
 fn file(alloc: Global, name: &str, text: &str) -> Result<NamedFile, Fail> {
     Ok(NamedFile {
@@ -371,21 +358,60 @@ fn run(
     Ok(())
 }
 
+/// What `check one.fpj` writes of the files of a case.
+fn is_written(
+    alloc: Global,
+    rt: &impl Abort,
+    line: &Vec<String>,
+    case: &Case,
+    text: &str,
+) -> Result<(), Fail> {
+    let mut shelf = SureShelf::new(files(alloc, case)?);
+    let mut sink = MemSink::new(alloc, 1000, 100, Vec::new(alloc))?;
+    let answer = floyd(alloc, line, &mut shelf, &mut sink);
+    let wanted = if text.starts_with("proved") {
+        Status::Done
+    } else {
+        Status::Refused
+    };
+    assert!(rt; answer == wanted, "{}", text);
+    assert!(rt; sink.text() == text.as_bytes(), "{}", text);
+    Ok(())
+}
+
 #[test]
 fn each_project_has_its_verdict(rt: HostRuntime) -> Result<(), Fail> {
     let alloc = rt.alloc();
     let line = words(alloc, "check one.fpj")?;
     for case in &CASES {
-        let mut shelf = SureShelf::new(files(alloc, case)?);
-        let mut sink = MemSink::new(alloc, 1000, 100, Vec::new(alloc))?;
-        let answer = floyd(alloc, &line, &mut shelf, &mut sink);
-        let wanted = if case.text.starts_with("proved") {
-            Status::Done
-        } else {
-            Status::Refused
+        is_written(alloc, &rt, &line, case, case.text)?;
+    }
+    Ok(())
+}
+
+/// The text that a row's answer stands for.
+fn text_of(alloc: Global, answer: &str) -> Result<String, Fail> {
+    Ok(match answer {
+        "accepted" => String::from_str(alloc, "proved main\naccepted\n")?,
+        _ => format!(in alloc; "{answer}\n")?,
+    })
+}
+
+#[test]
+fn each_source_has_its_verdict(rt: HostRuntime) -> Result<(), Fail> {
+    let alloc = rt.alloc();
+    let line = words(alloc, "check one.fpj")?;
+    'rows: for row in SOURCES.lines() {
+        let (source, answer) = row.split_once('#').ok_or("no answer")?;
+        let case = Case {
+            project: PROJECT,
+            source,
+            spec: SPEC,
+            script: SCRIPT,
+            text: answer,
         };
-        assert!(rt; answer == wanted, "{}", case.text);
-        assert!(rt; sink.text() == case.text.as_bytes(), "{}", case.text);
+        let text = text_of(alloc, answer)?;
+        is_written(alloc, &rt, &line, &case, text.as_str())?;
     }
     Ok(())
 }
