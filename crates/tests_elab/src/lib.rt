@@ -18,4 +18,6 @@ mod running;
 #[cfg(test)]
 mod tables;
 #[cfg(test)]
+mod typing;
+#[cfg(test)]
 mod units;

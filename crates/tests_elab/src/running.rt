@@ -3,6 +3,7 @@ use crate::printing::{print_body, print_name};
 use crate::units::{print_defined, print_places, print_unit};
 use floyd_clight::{ClightUnit, Defined};
 use floyd_cparse::parse;
+use floyd_csyntax::CUnit;
 use floyd_elab::elaborate;
 use floyd_lex::{FileKind, tokens};
 use floyd_text::{Halt, Refusal, Shown, place_of};
@@ -34,12 +35,17 @@ pub(crate) struct Frame<'a> {
     pub view: View,
 }
 
-fn elaborated(alloc: Global, bytes: &[u8]) -> Result<ClightUnit, Halt> {
+/// The tree of a source.
+pub(crate) fn read(alloc: Global, bytes: &[u8]) -> Result<CUnit, Halt> {
     if bytes.len() >= 1 << 32 {
         return Err(Halt::Memory);
     }
     let list = tokens(alloc, FileKind::Source, 1, bytes)?;
-    let unit = parse(alloc, 1, bytes, &list)?;
+    parse(alloc, 1, bytes, &list)
+}
+
+fn elaborated(alloc: Global, bytes: &[u8]) -> Result<ClightUnit, Halt> {
+    let unit = read(alloc, bytes)?;
     elaborate(alloc, 1, &unit)
 }
 
@@ -64,7 +70,7 @@ fn print_view(text: &mut String, view: View, unit: &ClightUnit) -> Result<(), Al
 }
 
 /// The code of a refusal, its place, and the name that it shows.
-fn print_refusal(text: &mut String, refusal: &Refusal) -> Result<(), AllocError> {
+pub(crate) fn print_refusal(text: &mut String, refusal: &Refusal) -> Result<(), AllocError> {
     let place = refusal.place;
     write!(text, "{}:{}: {}", place.line, place.column, refusal.code)?;
     match &refusal.shown {
@@ -123,7 +129,11 @@ fn print_end(text: &mut String, all: &[u8]) -> Result<(), AllocError> {
 }
 
 /// The source of a row and the answer that it expects. `@` stands before the token at which the source is refused.
-fn source_of(alloc: Global, frame: Frame<'_>, row: &str) -> Result<(Vec<u8>, String), Fail> {
+pub(crate) fn source_of(
+    alloc: Global,
+    frame: Frame<'_>,
+    row: &str,
+) -> Result<(Vec<u8>, String), Fail> {
     let (text, wanted) = row.split_once('#').ok_or("no answer")?;
     let mut all = Vec::new(alloc);
     let mut expected = String::new(alloc);

@@ -5,6 +5,7 @@ use crate::globals::{CONTENTS, PLACES, UNITS};
 use crate::locals::LOCALS;
 use crate::refusals::{BODIES, DATA, DECLARATIONS, DEPTH, LIMITS, ORDER};
 use crate::running::{Frame, View, failures};
+use crate::typing::{TYPES, type_failures};
 use std::test::Fail;
 
 /// Structs, variables and functions of a file, and variables of a function, whose statements follow.
@@ -30,6 +31,13 @@ const fn alone(view: View) -> Frame<'static> {
         back: "",
         view,
     }
+}
+
+#[test]
+fn types(rt: HostRuntime) -> Result<(), Fail> {
+    let failed = type_failures(rt.alloc(), TYPES)?;
+    assert_eq!(rt; failed.as_str(), "");
+    Ok(())
 }
 
 #[test]
