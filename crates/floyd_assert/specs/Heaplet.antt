@@ -1,7 +1,7 @@
 -- Parts of memory: a heaplet has a byte at some places. One that fits a memory has finitely many places.
 use Rattle.std.specs.Prelude.{◌≡◌, ℕ, true, Option, Some, None}
 use Rattle.floyd_memval.specs.declared.bytes.MemByte.{MemByte}
-use Rattle.floyd_memory.specs.Memory.{Mem, Slot, Writable, includes, slot}
+use Rattle.floyd_clight_memory.specs.Memory.{Mem, Slot, Writable, includes, slot}
 use Rattle.floyd_clight.specs.Evaluation.{Look}
 
 pub record Cell : Type 0 where

@@ -5,10 +5,10 @@ use Rattle.floyd_text.specs.declared.refusal.Halt.{Halt}
 use Rattle.floyd_text.specs.declared.refusal.Halt.TheVariants.{Refused, Memory}
 use Rattle.floyd_text.specs.Gives.{Stops}
 use Rattle.floyd_lex.specs.declared.kinds.FileKind.TheVariants as kind
-use Rattle.floyd_project.specs.declared.module.Module.{Module}
+use Rattle.floyd_check_project.specs.declared.module.Module.{Module}
 use Rattle.floyd_clight.specs.declared.syntax.Stmt.{Stmt}
-use Rattle.floyd_first.specs.declared.form.Script.{Script}
-use Rattle.floyd_first.specs.Forms.{IsSpec, IsScript}
+use Rattle.floyd_check_stub.specs.declared.form.Script.{Script}
+use Rattle.floyd_check_stub.specs.Forms.{IsSpec, IsScript}
 use Rattle.floyd_goal.specs.Derivation.{main_start, played}
 use Rattle.floyd_check.specs.FileReading.{ReadsFile, ReadsSource}
 use Rattle.floyd_check.specs.Loading.{modules_of}

@@ -9,9 +9,9 @@ use Rattle.floyd_lex.specs.declared.kinds.FileKind.TheVariants as kind
 use Rattle.floyd_lex.specs.declared.lead.Flaw.{Flaw}
 use Rattle.floyd_lex.specs.Cuts.{Cuts, Outcome, ends, skips, takes, is_long, is_full, refuses, IsCut, answer_at}
 use Rattle.floyd_lex.specs.Token.{Token, TokenList, placed, token_of, tokens_in}
-use Rattle.floyd_first.specs.declared.form.Entry.{Entry}
-use Rattle.floyd_first.specs.declared.form.Script.{Script}
-use Rattle.floyd_first.specs.Forms.{IsScript, AreCommands}
+use Rattle.floyd_check_stub.specs.declared.form.Entry.{Entry}
+use Rattle.floyd_check_stub.specs.declared.form.Script.{Script}
+use Rattle.floyd_check_stub.specs.Forms.{IsScript, AreCommands}
 use Rattle.floyd_check.specs.FileReading.{Follows, ReadsTokens, ReadsFile}
 
 -- no file has more tokens than may be left

@@ -1,9 +1,9 @@
 -- A project that is built has one module, and so three files besides its own.
 use Rattle.std.proofs.Common.{◌≡◌, ℕ, ◌*◌, ◌<◌, List, [], ◌∷◌, length, Result, Ok, Err, refl, subst, arith}
 use Rattle.floyd_text.specs.declared.refusal.Refusal.{Refusal}
-use Rattle.floyd_project.specs.declared.module.Module.{Module}
-use Rattle.floyd_project.specs.Project.{project_of}
-use Rattle.floyd_project.proofs.SomeLaws.{project_some}
+use Rattle.floyd_check_project.specs.declared.module.Module.{Module}
+use Rattle.floyd_check_project.specs.Project.{project_of}
+use Rattle.floyd_check_project.proofs.SomeLaws.{project_some}
 use Rattle.floyd_check.specs.Loading.{modules_of, built_modules, on_ok}
 use Rattle.floyd_check.specs.Verdict.{HasAllFiles}
 

@@ -9,12 +9,12 @@ use Rattle.floyd_lex.specs.Token.{Token, tokens_in}
 use Rattle.floyd_lex.proofs.OneCut.{same_answer}
 use Rattle.floyd_cparse.specs.Source.{IsRead}
 use Rattle.floyd_cparse.proofs.SourceLemmas as source
-use Rattle.floyd_project.specs.declared.module.Module.{Module}
-use Rattle.floyd_first.specs.Forms.{IsSpec, IsScript}
-use Rattle.floyd_first.proofs.SpecForm.{same_spec}
-use Rattle.floyd_first.proofs.ScriptForm.{same_script}
+use Rattle.floyd_check_project.specs.declared.module.Module.{Module}
+use Rattle.floyd_check_stub.specs.Forms.{IsSpec, IsScript}
+use Rattle.floyd_check_stub.proofs.SpecForm.{same_spec}
+use Rattle.floyd_check_stub.proofs.ScriptForm.{same_script}
 use Rattle.floyd_elab.specs.Units.{elaborated}
-use Rattle.floyd_first.specs.MainForm.{main_in}
+use Rattle.floyd_check_stub.specs.MainForm.{main_in}
 use Rattle.floyd_check.specs.FileReading.{Follows, Then, ReadsTokens, ReadsFile, ReadsSource, built}
 use Rattle.floyd_check.specs.Loading.{modules_of, loaded}
 use Rattle.floyd_check.specs.Verdict.{Program, judged, Judges, JudgesModules, JudgesFiles, JudgesLoaded, IsVerdict}

@@ -9,14 +9,14 @@ use Rattle.floyd_lex.specs.Cuts as cuts
 use Rattle.floyd_lex.specs.Cuts.{IsCut}
 use Rattle.floyd_lex.specs.Token.{Token, TokenList, tokens_in}
 use Rattle.floyd_lex.specs.declared.kinds.FileKind.TheVariants as kinds
-use Rattle.floyd_csyntax.specs.declared.declarations.CUnit.{CUnit}
+use Rattle.floyd_cparse_trees.specs.declared.declarations.CUnit.{CUnit}
 use Rattle.floyd_cparse.specs.Source as source
 use Rattle.floyd_cparse.specs.Source.{IsRead}
 use Rattle.floyd_clight.specs.declared.syntax.Stmt.{Stmt}
 use Rattle.floyd_clight.specs.declared.unit.ClightUnit.{ClightUnit}
 use Rattle.floyd_elab.specs.Units.{elaborated}
-use Rattle.floyd_first.specs.Forms.{ReadsAs}
-use Rattle.floyd_first.specs.MainForm.{main_in}
+use Rattle.floyd_check_stub.specs.Forms.{ReadsAs}
+use Rattle.floyd_check_stub.specs.MainForm.{main_in}
 use Rattle.floyd_check.specs.Checked.{Answers}
 use Rattle.floyd_check.specs.FileReading.{Then, ReadsFile, ReadsSource, not_built, built}
 

@@ -3,7 +3,7 @@ use Rattle.std.specs.Prelude.{◌≡◌, ℕ, List, [], ◌∷◌, Result, Ok, E
 use Rattle.floyd_text.specs.declared.refusal.Halt.{Halt}
 use Rattle.floyd_text.specs.declared.refusal.Refusal.{Refusal}
 use Rattle.floyd_text.specs.declared.refusal.Halt.TheVariants.{Refused, Memory}
-use Rattle.floyd_runs.specs.Sound.{Sound}
+use Rattle.floyd_clight_runs.specs.Sound.{Sound}
 use Rattle.floyd_check.specs.declared.check.Accepted.{Accepted}
 use Rattle.floyd_check.specs.Verdict.{Program, linked_of, Judges, JudgesFiles}
 

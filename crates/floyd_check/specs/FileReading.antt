@@ -9,8 +9,8 @@ use Rattle.floyd_lex.specs.Token.{Token, tokens_in}
 use Rattle.floyd_cparse.specs.Source.{IsRead}
 use Rattle.floyd_clight.specs.declared.syntax.Stmt.{Stmt}
 use Rattle.floyd_elab.specs.Units.{elaborated}
-use Rattle.floyd_first.specs.Forms.{ReadsAs}
-use Rattle.floyd_first.specs.MainForm.{main_in}
+use Rattle.floyd_check_stub.specs.Forms.{ReadsAs}
+use Rattle.floyd_check_stub.specs.MainForm.{main_in}
 use Rattle.floyd_check.specs.Loading.{refused}
 
 -- what comes after what was had, and the refusal where it was not had

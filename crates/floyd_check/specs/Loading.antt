@@ -7,9 +7,9 @@ use Rattle.floyd_text.specs.declared.refusal.Rule.TheVariants.{Reading}
 use Rattle.floyd_text.specs.declared.refusal.Shown.TheVariants.{Nothing}
 use Rattle.floyd_text.specs.Place.{place_at, first_place}
 use Rattle.floyd_text.specs.Outside.{Files, file_in}
-use Rattle.floyd_project.specs.declared.module.FileName.{FileName}
-use Rattle.floyd_project.specs.declared.module.Module.{Module}
-use Rattle.floyd_project.specs.Project.{project_of}
+use Rattle.floyd_check_project.specs.declared.module.FileName.{FileName}
+use Rattle.floyd_check_project.specs.declared.module.Module.{Module}
+use Rattle.floyd_check_project.specs.Project.{project_of}
 
 -- the most bytes of a file, and of all files but the project
 abbrev pub max_file : ℕ

@@ -4,18 +4,18 @@ use Rattle.std.specs.List.{sum_by}
 use Rattle.floyd_text.specs.declared.refusal.Refusal.{Refusal}
 use Rattle.floyd_text.specs.Outside.{Files}
 use Rattle.floyd_lex.specs.declared.kinds.FileKind.TheVariants as kind
-use Rattle.floyd_project.specs.declared.module.Module.{Module}
+use Rattle.floyd_check_project.specs.declared.module.Module.{Module}
 use Rattle.floyd_clight.specs.declared.syntax.Stmt.{Stmt}
 use Rattle.floyd_assert.specs.declared.funspec.Funspec.{Funspec}
 use Rattle.floyd_assert.specs.declared.funspec.Precondition.TheVariants.{Main as MainPre}
 use Rattle.floyd_assert.specs.declared.term.Term.{Number, Vint}
-use Rattle.floyd_runs.specs.Linked.{Linked, linked}
+use Rattle.floyd_clight_runs.specs.Linked.{Linked, linked}
 use Rattle.floyd_goal.specs.declared.script.Command.{Command}
 use Rattle.floyd_goal.specs.declared.script.Proof.{Proof}
 use Rattle.floyd_goal.specs.Derivation.{main_start, played}
-use Rattle.floyd_first.specs.declared.form.Entry.{Entry}
-use Rattle.floyd_first.specs.declared.form.Script.{Script}
-use Rattle.floyd_first.specs.Forms.{IsSpec, IsScript}
+use Rattle.floyd_check_stub.specs.declared.form.Entry.{Entry}
+use Rattle.floyd_check_stub.specs.declared.form.Script.{Script}
+use Rattle.floyd_check_stub.specs.Forms.{IsSpec, IsScript}
 use Rattle.floyd_check.specs.FileReading.{Then, ReadsFile, ReadsSource}
 use Rattle.floyd_check.specs.Loading.{max_file, max_files, modules_of, loaded}
 

@@ -3,7 +3,7 @@ ghost use Rattle.floyd_text.specs.Gives.{Gives};
 ghost use Rattle.floyd_check.specs.Loading as spec;
 ghost use Rattle.floyd_text.specs.Place as place_spec;
 
-use floyd_project::{ModuleList, read_project};
+use floyd_check_project::{ModuleList, read_project};
 use floyd_text::{Halt, Place, Refusal, Rule, Shown};
 use std::alloc::Global;
 

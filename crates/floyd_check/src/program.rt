@@ -2,8 +2,8 @@ ghost use Rattle.std.specs.Prelude.{◌≡◌, IfOk, map, codes};
 ghost use Rattle.floyd_check.specs.Verdict as spec;
 
 use floyd_assert::{Assertion, Funspec, Locals, Precondition, Term};
+use floyd_check_stub::{Entry, Script};
 use floyd_clight::{Stmt, StmtList};
-use floyd_first::{Entry, Script};
 use floyd_goal::{Command, CommandList, Proof};
 use floyd_text::Name;
 use sqlite_items::Items;

@@ -1,17 +1,17 @@
 //! The three files of a module, cut into tokens and read, and a source elaborated.
 ghost use Rattle.std.specs.Prelude.{◌≡◌, ◌≤◌, length};
 ghost use Rattle.floyd_lex.specs.declared.kinds.FileKind.TheVariants as kind;
-ghost use Rattle.floyd_first.specs.Forms.{IsScript, IsSpec};
+ghost use Rattle.floyd_check_stub.specs.Forms.{IsScript, IsSpec};
 ghost use Rattle.floyd_check.specs.Checked.{Answers};
 ghost use Rattle.floyd_check.specs.FileReading as spec;
 ghost use Rattle.floyd_check.specs.FileReading.{ReadsFile, ReadsSource};
 ghost use Rattle.floyd_check.specs.Loading.{max_file};
 
 use crate::modules::{first_place, refused};
+use floyd_check_stub::{Script, main_in, read_script, read_spec};
 use floyd_clight::StmtList;
 use floyd_cparse::parse;
 use floyd_elab::elaborate;
-use floyd_first::{Script, main_in, read_script, read_spec};
 use floyd_lex::{FileKind, tokens};
 use floyd_text::{Halt, Refusal};
 use std::alloc::Global;

@@ -5,11 +5,11 @@ use Rattle.floyd_text.specs.declared.place.Place.{Place}
 use Rattle.floyd_text.specs.declared.refusal.Refusal.{Refusal}
 use Rattle.floyd_text.specs.Outside.{Files, file_in}
 use Rattle.floyd_text.specs.Place.{first_place}
-use Rattle.floyd_project.specs.declared.module.FileName.{FileName}
-use Rattle.floyd_project.specs.declared.module.Module.{Module}
-use Rattle.floyd_project.specs.declared.draft.Expected.TheVariants.{AModule}
-use Rattle.floyd_project.specs.Lines.{lines_from}
-use Rattle.floyd_project.specs.Project.{project_of, bad_project, read_lines}
+use Rattle.floyd_check_project.specs.declared.module.FileName.{FileName}
+use Rattle.floyd_check_project.specs.declared.module.Module.{Module}
+use Rattle.floyd_check_project.specs.declared.draft.Expected.TheVariants.{AModule}
+use Rattle.floyd_check_project.specs.Lines.{lines_from}
+use Rattle.floyd_check_project.specs.Project.{project_of, bad_project, read_lines}
 use Rattle.std.specs.List.{flat_map}
 use Rattle.floyd_check.specs.Loading.{refused, on_ok, bytes_at, within_all, named_at, next_file, files_from, files_of, built_modules, modules_of, loaded, names_with, max_file, max_files}
 use Rattle.floyd_check.specs.Verdict.{Program, JudgesFiles, JudgesLoaded}

@@ -7,8 +7,8 @@ use Rattle.std.specs.List.{list_all}
 use Rattle.floyd_text.specs.declared.place.Place.{Place}
 use Rattle.floyd_text.specs.declared.refusal.Refusal.{Refusal}
 use Rattle.floyd_text.specs.Outside.{Files, file_in, HasFile, HasNone, HasLonger}
-use Rattle.floyd_project.specs.declared.module.FileName.{FileName}
-use Rattle.floyd_project.specs.Lines.{is_file_name, is_file_byte, is_digit}
+use Rattle.floyd_check_project.specs.declared.module.FileName.{FileName}
+use Rattle.floyd_check_project.specs.Lines.{is_file_name, is_file_byte, is_digit}
 use Rattle.floyd_check.specs.Loading.{bytes_at, named_at, files_from, refused, max_file, max_files, on_ok, within_all}
 use Rattle.std.proofs.lemmas.List.{drop_more, drop_all}
 use Rattle.floyd_text.proofs.OutsideLemmas.{rose_after}

@@ -7,10 +7,10 @@ use Rattle.floyd_text.specs.declared.refusal.Halt.TheVariants as h
 use Rattle.floyd_text.specs.Gives.{Stops}
 use Rattle.floyd_text.specs.Outside.{Files}
 use Rattle.floyd_text.specs.Place.{first_place}
-use Rattle.floyd_project.specs.declared.module.FileName.{FileName}
-use Rattle.floyd_project.specs.declared.module.Module.{Module}
-use Rattle.floyd_project.specs.Project.{project_of}
-use Rattle.floyd_project.proofs.NameLaws.{AllNamed, project_named}
+use Rattle.floyd_check_project.specs.declared.module.FileName.{FileName}
+use Rattle.floyd_check_project.specs.declared.module.Module.{Module}
+use Rattle.floyd_check_project.specs.Project.{project_of}
+use Rattle.floyd_check_project.proofs.NameLaws.{AllNamed, project_named}
 use Rattle.floyd_check.specs.Loading.{files_from, files_of, names_with, modules_of, built_modules, on_ok}
 use Rattle.floyd_cli.specs.declared.load.LoadStop.{LoadStop}
 use Rattle.floyd_cli.specs.declared.load.LoadStop.TheVariants.{Refused, Fault, Memory}

@@ -2,7 +2,7 @@
 use Rattle.std.specs.Prelude.{◌≡◌, ℕ, ◌⊎◌, List, [], ◌∷◌, Option, Some, None, Result, Ok, Err, codes}
 use Rattle.floyd_text.specs.declared.refusal.Refusal.{Refusal}
 use Rattle.floyd_text.specs.Outside.{Files, Appends, AppendsFront}
-use Rattle.floyd_runs.specs.Sound.{Sound}
+use Rattle.floyd_clight_runs.specs.Sound.{Sound}
 use Rattle.floyd_check.specs.Loading.{names_in}
 use Rattle.floyd_check.specs.Verdict.{Program, linked_of, IsVerdict}
 use Rattle.floyd_cli.specs.declared.status.Status.{Status}

@@ -5,8 +5,8 @@ use Rattle.floyd_text.specs.declared.refusal.Refusal.{Refusal}
 use Rattle.floyd_text.specs.declared.refusal.Halt.{Halt}
 use Rattle.floyd_text.specs.declared.refusal.Halt.TheVariants as h
 use Rattle.floyd_text.specs.Outside.{Files, file_in, Rose}
-use Rattle.floyd_project.specs.declared.module.FileName.{FileName}
-use Rattle.floyd_project.specs.Lines.{is_file_name}
+use Rattle.floyd_check_project.specs.declared.module.FileName.{FileName}
+use Rattle.floyd_check_project.specs.Lines.{is_file_name}
 use Rattle.floyd_check.specs.Loading.{bytes_at, next_file, files_from, loaded, names_in}
 use Rattle.floyd_cli.specs.declared.load.LoadStop.{LoadStop}
 use Rattle.floyd_cli.specs.declared.load.LoadStop.TheVariants.{Refused, Fault, Memory}

@@ -3,12 +3,12 @@ ghost use Rattle.std.specs.List.{flat_map, sum_by};
 ghost use Rattle.floyd_check.specs.Loading.{files_of, max_file, max_files, named_at, refused};
 ghost use Rattle.floyd_check.specs.Verdict.{AreFiles};
 ghost use Rattle.floyd_text.specs.Place.{first_place};
-ghost use Rattle.floyd_project.specs.declared.module.FileName.{FileName};
+ghost use Rattle.floyd_check_project.specs.declared.module.FileName.{FileName};
 ghost use Rattle.floyd_cli.specs.Loads.{AreNamed, HasBytes, Loads, ReadsFile, ReadsNext, ReadsFiles, stop_of};
-ghost use Rattle.floyd_project.specs.Lines.{is_file_name};
+ghost use Rattle.floyd_check_project.specs.Lines.{is_file_name};
 
 use floyd_check::{FileList, modules_of};
-use floyd_project::{FileName, Module};
+use floyd_check_project::{FileName, Module};
 use floyd_text::{
     Bytes, Halt, Name, Place, ReadStop, Refusal, Rule, Shelf, Shown, place_of, read_file,
 };

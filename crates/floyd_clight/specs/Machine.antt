@@ -3,7 +3,7 @@ use Rattle.std.specs.Prelude.{ℕ, ◌+◌, ◌==◌, Bool, not, List, [], ◌�
 use Rattle.floyd_int.specs.declared.kinds.Value.{Value}
 use Rattle.floyd_int.specs.declared.kinds.Value.TheVariants.{Vundef, Vint}
 use Rattle.floyd_memval.specs.declared.bytes.MemByte.{MemByte}
-use Rattle.floyd_memory.specs.Memory.{Mem, Slot, Block, Readable, includes, nth, slot, free}
+use Rattle.floyd_clight_memory.specs.Memory.{Mem, Slot, Block, Readable, includes, nth, slot, free}
 use Rattle.floyd_ctypes.specs.declared.ctype.CType.{CType}
 use Rattle.floyd_ctypes.specs.Structs.{Structs}
 use Rattle.floyd_ctypes.specs.Has.{has}

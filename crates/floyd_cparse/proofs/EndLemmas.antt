@@ -4,9 +4,9 @@ use Rattle.std.specs.Prelude.{Option, Some, None, slice_get, option_map}
 use Rattle.std.proofs.lemmas.List.{length-map}
 use Rattle.floyd_text.specs.declared.place.Place.{Place}
 use Rattle.floyd_lex.specs.Token.{Token, TokenList, Lexeme, text_of, token_of, tokens_in}
-use Rattle.floyd_ctokens.specs.Tokens.{Sight, sights}
+use Rattle.floyd_cparse_tokens.specs.Tokens.{Sight, sights}
 use Rattle.floyd_cparse.specs.Source.{tokens_of, code_of, shown_of, refusal, refusal_before, refusal_at}
-use Rattle.floyd_ctokens.proofs.SightLemmas.{there}
+use Rattle.floyd_cparse_tokens.proofs.SightLemmas.{there}
 
 pub drop_sights : (n : ℕ) (ts : List Token) → drop n (sights ts) ≡ sights (drop n ts)
 drop_sights zero ts = refl

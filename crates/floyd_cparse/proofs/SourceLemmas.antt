@@ -7,8 +7,8 @@ use Rattle.floyd_grammar.specs.Parse.{whole}
 use Rattle.floyd_grammar.specs.Refused.{IsRefused}
 use Rattle.floyd_grammar.proofs.OneFault.{one_refusal}
 use Rattle.floyd_grammar.proofs.Whole.{all_found, all_refused, unique, prefix_front}
-use Rattle.floyd_csyntax.specs.declared.declarations.CUnit.{CUnit}
-use Rattle.floyd_ctokens.specs.Tokens.{Sight}
+use Rattle.floyd_cparse_trees.specs.declared.declarations.CUnit.{CUnit}
+use Rattle.floyd_cparse_tokens.specs.Tokens.{Sight}
 use Rattle.floyd_cparse.specs.Source.{tokens_of, refusal_at, IsRead, HasOneReading, BeginningsAreFronts}
 use Rattle.floyd_cparse.specs.UnitReading as r
 use Rattle.floyd_cparse.specs.Units as g

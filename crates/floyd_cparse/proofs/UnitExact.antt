@@ -15,34 +15,34 @@ use Rattle.floyd_grammar.proofs.Either.{either, either_sure, or_left, or_right}
 use Rattle.floyd_grammar.proofs.Wider.{wider, loose}
 use Rattle.floyd_grammar.proofs.Repeat.{repeat, folded_nil}
 use Rattle.floyd_grammar.proofs.Lists.{separated, closed, closed_open}
-use Rattle.floyd_csyntax.specs.declared.declarations.External.{External}
-use Rattle.floyd_csyntax.specs.declared.types.Identifier.{Identifier}
-use Rattle.floyd_ctypenames.specs.declared.values.Declared.TheVariants as of
+use Rattle.floyd_cparse_trees.specs.declared.declarations.External.{External}
+use Rattle.floyd_cparse_trees.specs.declared.types.Identifier.{Identifier}
+use Rattle.floyd_cparse_types.specs.declared.values.Declared.TheVariants as of
 use Rattle.floyd_cparse.specs.declared.values.GlobalEnd.{GlobalEnd}
 use Rattle.floyd_cparse.specs.declared.values.Globals.{Globals}
 use Rattle.floyd_cparse.specs.declared.values.InitialiserStart.{InitialiserStart}
 use Rattle.floyd_cparse.specs.declared.values.InitialiserStart.TheVariants as start
 use Rattle.floyd_cparse.specs.declared.values.Initialisers.{Initialisers}
-use Rattle.floyd_ctypenames.specs.declared.values.ReadDeclarator.{ReadDeclarator}
+use Rattle.floyd_cparse_types.specs.declared.values.ReadDeclarator.{ReadDeclarator}
 use Rattle.floyd_cparse.specs.declared.values.ReadGlobal.{ReadGlobal}
 use Rattle.floyd_cparse.specs.declared.values.ReadInitialiser.{ReadInitialiser}
-use Rattle.floyd_ctypenames.specs.declared.values.ReadSpecifiers.{ReadSpecifiers}
+use Rattle.floyd_cparse_types.specs.declared.values.ReadSpecifiers.{ReadSpecifiers}
 use Rattle.floyd_cparse.specs.declared.values.ValueEnd.{ValueEnd}
-use Rattle.floyd_ctokens.specs.Tokens.{without_room, Sight, Types, is_mark, is_word, is_word_kind, closing, place_if}
-use Rattle.floyd_ctypenames.specs.Types as tg
-use Rattle.floyd_ctypenames.specs.Types.{goes_on_declarator}
-use Rattle.floyd_ctypenames.specs.TypeReading as tr
-use Rattle.floyd_cstatements.specs.Statements as sg
-use Rattle.floyd_cstatements.specs.StatementReading as sr
+use Rattle.floyd_cparse_tokens.specs.Tokens.{without_room, Sight, Types, is_mark, is_word, is_word_kind, closing, place_if}
+use Rattle.floyd_cparse_types.specs.Types as tg
+use Rattle.floyd_cparse_types.specs.Types.{goes_on_declarator}
+use Rattle.floyd_cparse_types.specs.TypeReading as tr
+use Rattle.floyd_cparse_statements.specs.Statements as sg
+use Rattle.floyd_cparse_statements.specs.StatementReading as sr
 use Rattle.floyd_cparse.specs.Units as g
 use Rattle.floyd_cparse.specs.Units.{limit, is_last_comma, is_separator, ReadExternal, ReadUnit, Typedefs}
 use Rattle.floyd_cparse.specs.UnitReading as r
 use Rattle.floyd_cparse.specs.UnitReading.{begins_body}
-use Rattle.floyd_ctokens.proofs.TokenLemmas.{and_left, or_cases, or_fails_left, or_fails_right, not_true, not_false, mark_kind, word_kind}
-use Rattle.floyd_ctypenames.proofs.TypeSets.{begins_specs, begins_dtor, begins_dtor_kind, specifier_dtor, more_specs, more_specifier, mark_ends, is_specifier_kind}
-use Rattle.floyd_ctypenames.proofs.TypeExact.{InnerExact, meant_taken, meant_blamed, offered_place, closing_place}
-use Rattle.floyd_ctypenames.proofs.DeclaratorExact.{within_exact}
-use Rattle.floyd_cstatements.proofs.BlockExact.{block_items_exact, statements_exact}
+use Rattle.floyd_cparse_tokens.proofs.TokenLemmas.{and_left, or_cases, or_fails_left, or_fails_right, not_true, not_false, mark_kind, word_kind}
+use Rattle.floyd_cparse_types.proofs.TypeSets.{begins_specs, begins_dtor, begins_dtor_kind, specifier_dtor, more_specs, more_specifier, mark_ends, is_specifier_kind}
+use Rattle.floyd_cparse_types.proofs.TypeExact.{InnerExact, meant_taken, meant_blamed, offered_place, closing_place}
+use Rattle.floyd_cparse_types.proofs.DeclaratorExact.{within_exact}
+use Rattle.floyd_cparse_statements.proofs.BlockExact.{block_items_exact, statements_exact}
 use Rattle.floyd_cparse.proofs.UnitSets.{more_value_end, more_init, more_values, separator_ends, last_comma_ends, values_end_last, values_end_last_blamed, values_end_meant, more_typedefs, typedefs_end_meant, more_global_end, more_global, more_globals, comma_ends_global, globals_end_taken, globals_end_meant, specs_words}
 
 -- what the readers of initial data keep to

@@ -6,7 +6,7 @@ use Rattle.floyd_lex.specs.declared.kinds.Punctuator.{Punctuator}
 use Rattle.floyd_lex.specs.declared.kinds.Punctuator.TheVariants as p
 use Rattle.floyd_lex.specs.declared.kinds.Keyword.TheVariants as w
 use Rattle.floyd_grammar.specs.Parse.{is_taken, is_blamed, is_meant}
-use Rattle.floyd_ctypenames.specs.declared.values.Declared.TheVariants as of
+use Rattle.floyd_cparse_types.specs.declared.values.Declared.TheVariants as of
 use Rattle.floyd_cparse.specs.declared.values.GlobalEnd.{GlobalEnd}
 use Rattle.floyd_cparse.specs.declared.values.GlobalEnd.TheVariants as end
 use Rattle.floyd_cparse.specs.declared.values.Globals.{Globals}
@@ -14,12 +14,12 @@ use Rattle.floyd_cparse.specs.declared.values.Initialisers.{Initialisers}
 use Rattle.floyd_cparse.specs.declared.values.ReadGlobal.{ReadGlobal}
 use Rattle.floyd_cparse.specs.declared.values.ReadInitialiser.{ReadInitialiser}
 use Rattle.floyd_cparse.specs.declared.values.ValueEnd.{ValueEnd}
-use Rattle.floyd_ctokens.specs.Tokens.{Sight, Types, is_mark, is_word, is_mark_kind, is_word_kind, next_is, place_if}
-use Rattle.floyd_ctypenames.specs.Types.{goes_on_declarator}
-use Rattle.floyd_cstatements.specs.Statements.{semicolon}
+use Rattle.floyd_cparse_tokens.specs.Tokens.{Sight, Types, is_mark, is_word, is_mark_kind, is_word_kind, next_is, place_if}
+use Rattle.floyd_cparse_types.specs.Types.{goes_on_declarator}
+use Rattle.floyd_cparse_statements.specs.Statements.{semicolon}
 use Rattle.floyd_cparse.specs.Units.{is_last_comma, is_separator, values_end, Typedefs, typedefs_end, globals_end}
-use Rattle.floyd_ctokens.proofs.TokenLemmas.{and_left, and_right, apart, or_cases, or_fails_left, or_fails_right, or_fails, mark_kind, and-false_right, there_place, closing_taken, closing_unless, closing_unless_either}
-use Rattle.floyd_ctypenames.proofs.TypeSets.{begins_specs, begins_type_kind, begins_by_kind, mark_ends}
+use Rattle.floyd_cparse_tokens.proofs.TokenLemmas.{and_left, and_right, apart, or_cases, or_fails_left, or_fails_right, or_fails, mark_kind, and-false_right, there_place, closing_taken, closing_unless, closing_unless_either}
+use Rattle.floyd_cparse_types.proofs.TypeSets.{begins_specs, begins_type_kind, begins_by_kind, mark_ends}
 
 -- what goes on with initial data
 abbrev pub more_value_end : ValueEnd → Sight → Bool

@@ -11,8 +11,8 @@ use Rattle.floyd_text.specs.Place.{place_at}
 use Rattle.floyd_lex.specs.Token.{TokenList, tokens_in}
 use Rattle.floyd_grammar.specs.declared.stop.Fault.{Fault}
 use Rattle.floyd_grammar.specs.Refused.{IsRefused}
-use Rattle.floyd_csyntax.specs.declared.declarations.CUnit.{CUnit}
-use Rattle.floyd_ctokens.specs.Tokens.{Sight, sights, unexpected, shadowed, left_out}
+use Rattle.floyd_cparse_trees.specs.declared.declarations.CUnit.{CUnit}
+use Rattle.floyd_cparse_tokens.specs.Tokens.{Sight, sights, unexpected, shadowed, left_out}
 use Rattle.floyd_cparse.specs.Units.{unit}
 
 -- the tokens of a source as its grammar sees them

@@ -3,25 +3,25 @@ use Rattle.std.specs.Prelude.{ℕ, zero, suc, pred, Bool, true, false, not, ◌&
 use Rattle.floyd_text.specs.declared.place.Place.{Place}
 use Rattle.floyd_lex.specs.declared.kinds.Punctuator.TheVariants as p
 use Rattle.floyd_lex.specs.declared.kinds.Keyword.TheVariants as w
-use Rattle.floyd_csyntax.specs.declared.declarations.CUnit.{CUnit}
-use Rattle.floyd_csyntax.specs.declared.declarations.External.{External}
-use Rattle.floyd_csyntax.specs.declared.declarations.Initialiser.{Initialiser}
-use Rattle.floyd_csyntax.specs.declared.types.Identifier.{Identifier}
-use Rattle.floyd_ctypenames.specs.declared.values.Declared.TheVariants as of
+use Rattle.floyd_cparse_trees.specs.declared.declarations.CUnit.{CUnit}
+use Rattle.floyd_cparse_trees.specs.declared.declarations.External.{External}
+use Rattle.floyd_cparse_trees.specs.declared.declarations.Initialiser.{Initialiser}
+use Rattle.floyd_cparse_trees.specs.declared.types.Identifier.{Identifier}
+use Rattle.floyd_cparse_types.specs.declared.values.Declared.TheVariants as of
 use Rattle.floyd_cparse.specs.declared.values.Globals.{Globals}
 use Rattle.floyd_cparse.specs.declared.values.InitialiserStart.{InitialiserStart}
 use Rattle.floyd_cparse.specs.declared.values.InitialiserStart.TheVariants as start
 use Rattle.floyd_cparse.specs.declared.values.Initialisers.{Initialisers}
-use Rattle.floyd_ctypenames.specs.declared.values.ReadDeclarator.{ReadDeclarator}
+use Rattle.floyd_cparse_types.specs.declared.values.ReadDeclarator.{ReadDeclarator}
 use Rattle.floyd_cparse.specs.declared.values.ReadGlobal.{ReadGlobal}
 use Rattle.floyd_cparse.specs.declared.values.ReadInitialiser.{ReadInitialiser}
-use Rattle.floyd_ctypenames.specs.declared.values.ReadSpecifiers.{ReadSpecifiers}
+use Rattle.floyd_cparse_types.specs.declared.values.ReadSpecifiers.{ReadSpecifiers}
 use Rattle.floyd_cparse.specs.declared.values.ValueEnd.{ValueEnd}
-use Rattle.floyd_ctokens.specs.Tokens.{without_room, Sight, Types, is_mark, is_word}
+use Rattle.floyd_cparse_tokens.specs.Tokens.{without_room, Sight, Types, is_mark, is_word}
 use Rattle.floyd_grammar.specs.Parse.{Parser, one, pure, either, folded, ◌>>=◌, ◌>>◌}
-use Rattle.floyd_ctypenames.specs.TypeReading.{within}
-use Rattle.floyd_cstatements.specs.Statements.{comma_token, equal_token, brace_end}
-use Rattle.floyd_cstatements.specs.StatementReading.{statements, block_items}
+use Rattle.floyd_cparse_types.specs.TypeReading.{within}
+use Rattle.floyd_cparse_statements.specs.Statements.{comma_token, equal_token, brace_end}
+use Rattle.floyd_cparse_statements.specs.StatementReading.{statements, block_items}
 use Rattle.floyd_cparse.specs.Units.{limit, is_last_comma, is_separator, init_token, element_token, literal_token, element_end, name_token, last_comma_token, separator_token, values_end, typedef_token, extern_token, semicolon_end, body_token, ReadExternal, ReadUnit, Typedefs, element_of, address_of, list_of, literal_read, name_read, first_value, plus_value, first_typedef, plus_typedef, typedef_of, global_with, global_alone, first_global, plus_global, declaration_of, declaration_alone, function_of, read_external, no_externals, plus_external, unit_of, typedefs_end, globals_end}
 
 abbrev pub begins_body : Bool → Sight → Bool

@@ -13,34 +13,34 @@ use Rattle.floyd_text.specs.declared.place.Place.{Place}
 use Rattle.floyd_lex.specs.declared.kinds.Punctuator.TheVariants as p
 use Rattle.floyd_lex.specs.declared.kinds.Keyword.TheVariants as w
 use Rattle.floyd_grammar.specs.Phrase.{Phrase, one, pure, ◌>>=◌, ◌>>◌, ◌or◌, folded}
-use Rattle.floyd_csyntax.specs.declared.declarations.CUnit.{CUnit}
-use Rattle.floyd_csyntax.specs.declared.declarations.Constant.{Constant}
-use Rattle.floyd_csyntax.specs.declared.declarations.Constant.TheVariants as constant
-use Rattle.floyd_csyntax.specs.declared.declarations.External.{External}
-use Rattle.floyd_csyntax.specs.declared.declarations.External.TheVariants as e
-use Rattle.floyd_csyntax.specs.declared.declarations.Initialiser.{Initialiser}
-use Rattle.floyd_csyntax.specs.declared.declarations.Initialiser.TheVariants as i
-use Rattle.floyd_csyntax.specs.declared.statements.BlockItem.{BlockItem}
-use Rattle.floyd_csyntax.specs.declared.types.Declarator.{Declarator}
-use Rattle.floyd_csyntax.specs.declared.types.Identifier.{Identifier}
-use Rattle.floyd_csyntax.specs.declared.types.Literal.{Literal}
-use Rattle.floyd_ctypenames.specs.declared.values.Declared.TheVariants as of
-use Rattle.floyd_ctypenames.specs.declared.values.DeclaratorEnd.{DeclaratorEnd}
+use Rattle.floyd_cparse_trees.specs.declared.declarations.CUnit.{CUnit}
+use Rattle.floyd_cparse_trees.specs.declared.declarations.Constant.{Constant}
+use Rattle.floyd_cparse_trees.specs.declared.declarations.Constant.TheVariants as constant
+use Rattle.floyd_cparse_trees.specs.declared.declarations.External.{External}
+use Rattle.floyd_cparse_trees.specs.declared.declarations.External.TheVariants as e
+use Rattle.floyd_cparse_trees.specs.declared.declarations.Initialiser.{Initialiser}
+use Rattle.floyd_cparse_trees.specs.declared.declarations.Initialiser.TheVariants as i
+use Rattle.floyd_cparse_trees.specs.declared.statements.BlockItem.{BlockItem}
+use Rattle.floyd_cparse_trees.specs.declared.types.Declarator.{Declarator}
+use Rattle.floyd_cparse_trees.specs.declared.types.Identifier.{Identifier}
+use Rattle.floyd_cparse_trees.specs.declared.types.Literal.{Literal}
+use Rattle.floyd_cparse_types.specs.declared.values.Declared.TheVariants as of
+use Rattle.floyd_cparse_types.specs.declared.values.DeclaratorEnd.{DeclaratorEnd}
 use Rattle.floyd_cparse.specs.declared.values.GlobalEnd.{GlobalEnd}
 use Rattle.floyd_cparse.specs.declared.values.GlobalEnd.TheVariants as end
 use Rattle.floyd_cparse.specs.declared.values.Globals.{Globals}
 use Rattle.floyd_cparse.specs.declared.values.InitialiserStart.{InitialiserStart}
 use Rattle.floyd_cparse.specs.declared.values.InitialiserStart.TheVariants as start
 use Rattle.floyd_cparse.specs.declared.values.Initialisers.{Initialisers}
-use Rattle.floyd_ctypenames.specs.declared.values.ReadDeclarator.{ReadDeclarator}
+use Rattle.floyd_cparse_types.specs.declared.values.ReadDeclarator.{ReadDeclarator}
 use Rattle.floyd_cparse.specs.declared.values.ReadGlobal.{ReadGlobal}
 use Rattle.floyd_cparse.specs.declared.values.ReadInitialiser.{ReadInitialiser}
-use Rattle.floyd_ctypenames.specs.declared.values.ReadSpecifiers.{ReadSpecifiers}
+use Rattle.floyd_cparse_types.specs.declared.values.ReadSpecifiers.{ReadSpecifiers}
 use Rattle.floyd_cparse.specs.declared.values.ValueEnd.{ValueEnd}
-use Rattle.floyd_ctokens.specs.Tokens.{without_room, Sight, Types, is_mark, is_word, is_plain, identifier_of, literal_of, next_is, unexpected, blame, offered, wanted, closing, place_if, with_name}
-use Rattle.floyd_ctypenames.specs.Types.{within, after_declarator}
-use Rattle.floyd_cexpressions.specs.Expressions.{close_bracket}
-use Rattle.floyd_cstatements.specs.Statements.{statements, block_items, semicolon, comma_token, equal_token, brace_end}
+use Rattle.floyd_cparse_tokens.specs.Tokens.{without_room, Sight, Types, is_mark, is_word, is_plain, identifier_of, literal_of, next_is, unexpected, blame, offered, wanted, closing, place_if, with_name}
+use Rattle.floyd_cparse_types.specs.Types.{within, after_declarator}
+use Rattle.floyd_cparse_expressions.specs.Expressions.{close_bracket}
+use Rattle.floyd_cparse_statements.specs.Statements.{statements, block_items, semicolon, comma_token, equal_token, brace_end}
 
 -- how deep a token may stand
 unfoldable pub limit : ℕ

@@ -9,9 +9,9 @@ use crate::take_units::{
     take_literal, take_name, take_separator, take_values_end,
 };
 use crate::values::{InitialiserStart, Initialisers, ReadInitialiser, ValueEnd};
-use floyd_csyntax::{Constant, Identifier, Initialiser, Literal};
-use floyd_ctokens::{Reader, TypeNames};
-use floyd_ctypenames::take_brace_end;
+use floyd_cparse_tokens::{Reader, TypeNames};
+use floyd_cparse_trees::{Constant, Identifier, Initialiser, Literal};
+use floyd_cparse_types::take_brace_end;
 use floyd_grammar::Stop;
 use floyd_lex::Punctuator;
 use floyd_text::Place;

@@ -1,11 +1,11 @@
 //! Readers of declarations and sources.
 ghost use Rattle.std.specs.Prelude.{◌≡◌, ◌≤◌, IfOk, pred, suc, OnOk, []};
 ghost use Rattle.floyd_grammar.specs.Gives.{Gives};
-ghost use Rattle.floyd_cstatements.specs.Statements as s;
-ghost use Rattle.floyd_cstatements.specs.StatementReading.{statements, block_items};
+ghost use Rattle.floyd_cparse_statements.specs.Statements as s;
+ghost use Rattle.floyd_cparse_statements.specs.StatementReading.{statements, block_items};
 ghost use Rattle.floyd_cparse.specs.Units as u;
 ghost use Rattle.floyd_cparse.specs.UnitReading as r;
-ghost use Rattle.floyd_ctokens.specs.Tokens.{with_name};
+ghost use Rattle.floyd_cparse_tokens.specs.Tokens.{with_name};
 ghost use Rattle.floyd_cparse.specs.Scope.{typedefs_in, external_in};
 
 use crate::read_initialisers::read_init;
@@ -14,10 +14,12 @@ use crate::take_units::{
     take_typedefs_end,
 };
 use crate::values::{GlobalEnd, Globals, ReadGlobal};
-use floyd_cstatements::{read_block_items, take_equal};
-use floyd_csyntax::{CUnit, Declaration, External, FunctionDefinition, InitDeclarator, Typedef};
-use floyd_ctokens::{Reader, TypeNames};
-use floyd_ctypenames::{
+use floyd_cparse_statements::{read_block_items, take_equal};
+use floyd_cparse_tokens::{Reader, TypeNames};
+use floyd_cparse_trees::{
+    CUnit, Declaration, External, FunctionDefinition, InitDeclarator, Typedef,
+};
+use floyd_cparse_types::{
     Declarators, Declared, ReadDeclarator, ReadSpecifiers, read_dtor, read_specs, take_comma,
 };
 use floyd_grammar::Stop;

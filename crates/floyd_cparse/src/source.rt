@@ -5,8 +5,8 @@ ghost use Rattle.floyd_cparse.specs.Source as specs;
 ghost use Rattle.floyd_cparse.specs.UnitReading.{unit};
 
 use crate::read_units::read_unit;
-use floyd_csyntax::CUnit;
-use floyd_ctokens::{LEFT_OUT, Reader, SHADOWED, UNEXPECTED};
+use floyd_cparse_tokens::{LEFT_OUT, Reader, SHADOWED, UNEXPECTED};
+use floyd_cparse_trees::CUnit;
 use floyd_grammar::{Fault, Stop};
 use floyd_lex::Tokens;
 use floyd_text::{Halt, Name, Place, Refusal, Rule, Shown, place_of};

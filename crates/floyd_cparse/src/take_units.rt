@@ -1,15 +1,15 @@
 //! Tokens of declarations, as the reader takes them.
 ghost use Rattle.std.specs.Prelude.{◌≡◌, ◌<◌, ◌^◌, IfOk, []};
-ghost use Rattle.floyd_cstatements.specs.Statements as s;
+ghost use Rattle.floyd_cparse_statements.specs.Statements as s;
 ghost use Rattle.floyd_cparse.specs.Units as u;
 ghost use Rattle.floyd_cparse.specs.UnitReading as r;
 ghost use Rattle.floyd_grammar.specs.Parse.{leads, one};
 ghost use Rattle.floyd_grammar.specs.Gives.{Gives};
 
 use crate::values::{GlobalEnd, InitialiserStart, ValueEnd};
-use floyd_csyntax::{Identifier, Literal};
-use floyd_ctokens::{Reader, Sight, TypeNames, UNEXPECTED, closing};
-use floyd_ctypenames::{DeclaratorEnd, Declared, after_declarator};
+use floyd_cparse_tokens::{Reader, Sight, TypeNames, UNEXPECTED, closing};
+use floyd_cparse_trees::{Identifier, Literal};
+use floyd_cparse_types::{DeclaratorEnd, Declared, after_declarator};
 use floyd_grammar::Stop;
 use floyd_lex::{Keyword, Punctuator};
 use floyd_text::Place;

@@ -1,7 +1,7 @@
 //! What is read of initial data and of declarations, beside their trees: how they end.
 
-use floyd_csyntax::{Declarator, Identifier, InitDeclarator, Initialiser, Literal};
-use floyd_ctypenames::DeclaratorEnd;
+use floyd_cparse_trees::{Declarator, Identifier, InitDeclarator, Initialiser, Literal};
+use floyd_cparse_types::DeclaratorEnd;
 use floyd_text::Place;
 use sqlite_items::Items;
 

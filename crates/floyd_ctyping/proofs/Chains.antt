@@ -6,9 +6,9 @@ use Rattle.floyd_text.specs.declared.refusal.Refusal.{Refusal}
 use Rattle.floyd_text.specs.declared.refusal.Halt.{Halt}
 use Rattle.floyd_text.specs.declared.refusal.Halt.TheVariants.{Refused, Memory}
 use Rattle.floyd_text.specs.Gives.{Stops, Gives}
-use Rattle.floyd_declarators.specs.Doing.{GivesWith, followed, ◌>>=◌}
-use Rattle.floyd_declarators.specs.Typing.{Typing}
-use Rattle.floyd_declarators.specs.declared.tags.Tags.{Tags}
+use Rattle.floyd_elab_names.specs.Doing.{GivesWith, followed, ◌>>=◌}
+use Rattle.floyd_elab_names.specs.Typing.{Typing}
+use Rattle.floyd_elab_names.specs.declared.tags.Tags.{Tags}
 use Rattle.floyd_ctyping.specs.declared.operand.Operand.{Operand}
 
 abbrev pub GivesOperand : Result Operand Halt → Tags → Result (Operand × Tags) Refusal → Type 0

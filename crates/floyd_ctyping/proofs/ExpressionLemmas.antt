@@ -3,15 +3,15 @@ use Rattle.std.proofs.Common.{◌≡◌, ℕ, suc, List, [], ◌∷◌, length, 
 use denote.Hole.Carrier.{hidden}
 use Rattle.floyd_text.specs.declared.place.Place.{Place}
 use Rattle.floyd_int.specs.declared.kinds.IntOp.{IntOp}
-use Rattle.floyd_csyntax.specs.declared.types.Identifier.{Identifier}
-use Rattle.floyd_csyntax.specs.declared.expressions.BinaryOp.{BinaryOp}
-use Rattle.floyd_csyntax.specs.declared.expressions.MemberOp.{MemberOp}
-use Rattle.floyd_csyntax.specs.declared.expressions.Prefix.{Prefix}
-use Rattle.floyd_csyntax.specs.declared.expressions.StepOp.{StepOp}
-use Rattle.floyd_csyntax.specs.declared.expressions.CExpr.{CExpr, Parenthesised, Prefixed, PostfixStep, Index, Call, Member, Binary, Conditional, Assign}
-use Rattle.floyd_csyntax.specs.declared.expressions.CExpr.TheBlock.{shape-the_row-CExpr-0, hidden-the_row-CExpr-0, shape-the_row-CExpr-1}
-use Rattle.floyd_declarators.specs.Doing.{◌>>=◌}
-use Rattle.floyd_declarators.specs.Scopes.{Scopes}
+use Rattle.floyd_cparse_trees.specs.declared.types.Identifier.{Identifier}
+use Rattle.floyd_cparse_trees.specs.declared.expressions.BinaryOp.{BinaryOp}
+use Rattle.floyd_cparse_trees.specs.declared.expressions.MemberOp.{MemberOp}
+use Rattle.floyd_cparse_trees.specs.declared.expressions.Prefix.{Prefix}
+use Rattle.floyd_cparse_trees.specs.declared.expressions.StepOp.{StepOp}
+use Rattle.floyd_cparse_trees.specs.declared.expressions.CExpr.{CExpr, Parenthesised, Prefixed, PostfixStep, Index, Call, Member, Binary, Conditional, Assign}
+use Rattle.floyd_cparse_trees.specs.declared.expressions.CExpr.TheBlock.{shape-the_row-CExpr-0, hidden-the_row-CExpr-0, shape-the_row-CExpr-1}
+use Rattle.floyd_elab_names.specs.Doing.{◌>>=◌}
+use Rattle.floyd_elab_names.specs.Scopes.{Scopes}
 use Rattle.floyd_ctyping.specs.Expressions.{typed, prefixed, joined, indexed, chosen, nested_step, nested_call, nested_assignment, member}
 
 of_parenthesised : (s : Scopes) (a : CExpr) → typed s (Parenthesised a) ≡ typed s a

@@ -6,7 +6,7 @@ use Rattle.floyd_int.specs.declared.kinds.IntKind.{IntKind}
 use Rattle.floyd_ctypes.specs.declared.ctype.CType.{CType, Pointer, Function, items-the_row-CType}
 use Rattle.floyd_ctypes.specs.declared.ctype.CType.TheBlock.{shape-the_row-CType-0, hidden-the_row-CType-0, hidden-the_row-CType-1, items_hidden-the_row-CType-1}
 use Rattle.floyd_ctypes.specs.Structs.{Structs}
-use Rattle.floyd_declarators.specs.Types.{pointer_to, same_type, has_size, is_function}
+use Rattle.floyd_elab_names.specs.Types.{pointer_to, same_type, has_size, is_function}
 use Rattle.floyd_ctyping.specs.Operators.{when, pointer_plus, number_plus, sum_of, difference_of, number_beside, pointer_beside, common_of, joins, becomes_pointer, converts_to, casts_to_pointer, casts_to, points_to_function, signature_of, with_count}
 
 pub number_plus_of_pointer : (structs : Structs) (j : IntKind) (u : CType) → number_plus structs j (Pointer u) ≡ when (has_size structs u) (pointer_to u)

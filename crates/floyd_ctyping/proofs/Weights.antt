@@ -3,14 +3,14 @@ use Rattle.std.proofs.Common.{◌≡◌, ℕ, ◌+◌, ◌<◌, List, length, Op
 use denote.Hole.Carrier.{hidden}
 use Rattle.floyd_text.specs.declared.place.Place.{Place}
 use Rattle.floyd_int.specs.declared.kinds.IntOp.{IntOp}
-use Rattle.floyd_csyntax.specs.declared.types.Identifier.{Identifier}
-use Rattle.floyd_csyntax.specs.declared.expressions.BinaryOp.{BinaryOp}
-use Rattle.floyd_csyntax.specs.declared.expressions.MemberOp.{MemberOp}
-use Rattle.floyd_csyntax.specs.declared.expressions.Prefix.{Prefix}
-use Rattle.floyd_csyntax.specs.declared.expressions.StepOp.{StepOp}
-use Rattle.floyd_csyntax.specs.declared.expressions.CExpr as e
-use Rattle.floyd_csyntax.specs.declared.expressions.CExpr.{CExpr, Parenthesised, Prefixed, PostfixStep, Index, Call, Member, Binary, Conditional, Assign}
-use Rattle.floyd_csyntax.specs.declared.expressions.CExpr.TheBlock.{shape-the_row-CExpr-0, hidden-the_row-CExpr-0}
+use Rattle.floyd_cparse_trees.specs.declared.types.Identifier.{Identifier}
+use Rattle.floyd_cparse_trees.specs.declared.expressions.BinaryOp.{BinaryOp}
+use Rattle.floyd_cparse_trees.specs.declared.expressions.MemberOp.{MemberOp}
+use Rattle.floyd_cparse_trees.specs.declared.expressions.Prefix.{Prefix}
+use Rattle.floyd_cparse_trees.specs.declared.expressions.StepOp.{StepOp}
+use Rattle.floyd_cparse_trees.specs.declared.expressions.CExpr as e
+use Rattle.floyd_cparse_trees.specs.declared.expressions.CExpr.{CExpr, Parenthesised, Prefixed, PostfixStep, Index, Call, Member, Binary, Conditional, Assign}
+use Rattle.floyd_cparse_trees.specs.declared.expressions.CExpr.TheBlock.{shape-the_row-CExpr-0, hidden-the_row-CExpr-0}
 
 pub weight : CExpr → ℕ
 weight (e.Name i) = 0

@@ -6,32 +6,32 @@ use Rattle.floyd_text.specs.declared.place.Place.{Place}
 use Rattle.floyd_text.specs.declared.refusal.Refusal.{Refusal}
 use Rattle.floyd_ctypes.specs.declared.ctype.CType.{CType, Int}
 use Rattle.floyd_ctypes.specs.Structs.{Structs, field_of}
-use Rattle.floyd_csyntax.specs.declared.types.Identifier.{Identifier}
-use Rattle.floyd_csyntax.specs.declared.types.Literal.{Literal}
-use Rattle.floyd_csyntax.specs.declared.types.TypeName.{TypeName}
-use Rattle.floyd_csyntax.specs.declared.expressions.CExpr as e
-use Rattle.floyd_csyntax.specs.declared.expressions.BinaryOp.{BinaryOp}
-use Rattle.floyd_csyntax.specs.declared.expressions.BinaryOp.TheVariants as binary
-use Rattle.floyd_csyntax.specs.declared.expressions.MemberOp.{MemberOp}
-use Rattle.floyd_csyntax.specs.declared.expressions.Prefix.{Prefix}
-use Rattle.floyd_csyntax.specs.declared.expressions.Prefix.TheVariants as before
-use Rattle.floyd_csyntax.specs.declared.expressions.PrefixOp.{PrefixOp}
-use Rattle.floyd_csyntax.specs.declared.expressions.PrefixOp.TheVariants.{Minus, Plus, Complement, Not, Dereference, Address}
-use Rattle.floyd_declarators.specs.declared.meaning.Meaning.{Meaning}
-use Rattle.floyd_declarators.specs.declared.meaning.Meaning.TheVariants as m
-use Rattle.floyd_declarators.specs.declared.meaning.Storage.{Storage}
-use Rattle.floyd_declarators.specs.declared.meaning.Storage.TheVariants as kept
+use Rattle.floyd_cparse_trees.specs.declared.types.Identifier.{Identifier}
+use Rattle.floyd_cparse_trees.specs.declared.types.Literal.{Literal}
+use Rattle.floyd_cparse_trees.specs.declared.types.TypeName.{TypeName}
+use Rattle.floyd_cparse_trees.specs.declared.expressions.CExpr as e
+use Rattle.floyd_cparse_trees.specs.declared.expressions.BinaryOp.{BinaryOp}
+use Rattle.floyd_cparse_trees.specs.declared.expressions.BinaryOp.TheVariants as binary
+use Rattle.floyd_cparse_trees.specs.declared.expressions.MemberOp.{MemberOp}
+use Rattle.floyd_cparse_trees.specs.declared.expressions.Prefix.{Prefix}
+use Rattle.floyd_cparse_trees.specs.declared.expressions.Prefix.TheVariants as before
+use Rattle.floyd_cparse_trees.specs.declared.expressions.PrefixOp.{PrefixOp}
+use Rattle.floyd_cparse_trees.specs.declared.expressions.PrefixOp.TheVariants.{Minus, Plus, Complement, Not, Dereference, Address}
+use Rattle.floyd_elab_names.specs.declared.meaning.Meaning.{Meaning}
+use Rattle.floyd_elab_names.specs.declared.meaning.Meaning.TheVariants as m
+use Rattle.floyd_elab_names.specs.declared.meaning.Storage.{Storage}
+use Rattle.floyd_elab_names.specs.declared.meaning.Storage.TheVariants as kept
 use Rattle.floyd_ctyping.specs.declared.operand.Operand.{Operand}
 use Rattle.floyd_ctyping.specs.declared.operand.Standing.{Standing}
 use Rattle.floyd_ctyping.specs.declared.operand.Standing.TheVariants.{Value, Zero, Object, Parameter}
-use Rattle.floyd_declarators.specs.Refusals.{left_out, ill_typed, undeclared, nested_effect, bad_cast}
-use Rattle.floyd_declarators.specs.declared.tags.Tags.{Tags}
-use Rattle.floyd_declarators.specs.Doing.{◌>>=◌, ◌>>◌, pure, refuse, unless, or_refuse}
-use Rattle.floyd_declarators.specs.Typing.{Typing, the_structs}
-use Rattle.floyd_declarators.specs.Scopes.{Scopes, meaning_of}
-use Rattle.floyd_declarators.specs.Types.{int_type, size_type, has_size}
+use Rattle.floyd_elab_names.specs.Refusals.{left_out, ill_typed, undeclared, nested_effect, bad_cast}
+use Rattle.floyd_elab_names.specs.declared.tags.Tags.{Tags}
+use Rattle.floyd_elab_names.specs.Doing.{◌>>=◌, ◌>>◌, pure, refuse, unless, or_refuse}
+use Rattle.floyd_elab_names.specs.Typing.{Typing, the_structs}
+use Rattle.floyd_elab_names.specs.Scopes.{Scopes, meaning_of}
+use Rattle.floyd_elab_names.specs.Types.{int_type, size_type, has_size}
 use Rattle.floyd_ctyping.specs.Operators.{value_of_type, object_of_type, is_parameter, is_test, sign_type, not_type, dereferenced, address_type, common_type, binary_type, element_type, struct_before, is_target, is_cast, called, is_stepped}
-use Rattle.floyd_declarators.specs.Declarators.{parenthesis, ampersand, sizeof_site, type_named}
+use Rattle.floyd_elab_names.specs.Declarators.{parenthesis, ampersand, sizeof_site, type_named}
 
 -- Names and literals.
 

@@ -5,12 +5,12 @@ use Rattle.floyd_int.specs.declared.kinds.IntOp.{IntOp}
 use Rattle.floyd_int.specs.declared.kinds.IntOp.TheVariants.{Add, Sub, Mul, Div, Rem, And, Or, Xor, Shl, Shr, Eq, Ne, Lt, Le, Gt, Ge}
 use Rattle.floyd_ctypes.specs.declared.ctype.CType.{CType, Int, Pointer', Function', more_of-CType, end_of-CType, items-the_row-CType}
 use Rattle.floyd_ctypes.specs.Structs.{Structs}
-use Rattle.floyd_csyntax.specs.declared.expressions.MemberOp.{MemberOp}
-use Rattle.floyd_csyntax.specs.declared.expressions.MemberOp.TheVariants.{Dot, Arrow}
+use Rattle.floyd_cparse_trees.specs.declared.expressions.MemberOp.{MemberOp}
+use Rattle.floyd_cparse_trees.specs.declared.expressions.MemberOp.TheVariants.{Dot, Arrow}
 use Rattle.floyd_ctyping.specs.declared.operand.Operand.{Operand}
 use Rattle.floyd_ctyping.specs.declared.operand.Standing.{Standing}
 use Rattle.floyd_ctyping.specs.declared.operand.Standing.TheVariants.{Value, Zero, Object, Parameter}
-use Rattle.floyd_declarators.specs.Types.{promoted, usual, pointer_to, int_type, same_type, is_void, is_function, is_scalar, decayed, pointee, tag_of, has_size}
+use Rattle.floyd_elab_names.specs.Types.{promoted, usual, pointer_to, int_type, same_type, is_void, is_function, is_scalar, decayed, pointee, tag_of, has_size}
 
 abbrev pub when : {A : Type 0} → Bool → A → Option A
 when fits a = if fits then Some a else None

@@ -4,13 +4,13 @@ ghost use Rattle.floyd_text.specs.Gives.{Gives};
 ghost use Rattle.floyd_ctypes.specs.Define.{declared, completed, refusal, Answers};
 ghost use Rattle.floyd_ctypes.specs.Layout.{type_fits};
 ghost use Rattle.floyd_ctypes.specs.Structs.{has_tag};
-ghost use Rattle.floyd_declarators.specs.Scopes.{entered, left, with_meaning};
+ghost use Rattle.floyd_elab_names.specs.Scopes.{entered, left, with_meaning};
 ghost use Rattle.floyd_ctyping.specs.Expressions.{type_among};
 
 use crate::typed::typed;
-use floyd_csyntax::CExpr;
+use floyd_cparse_trees::CExpr;
 use floyd_ctypes::{CType, DefineStop, FieldList, StructTable};
-use floyd_declarators::{Meaning, Names, Tags};
+use floyd_elab_names::{Meaning, Names, Tags};
 use floyd_text::{Halt, Name};
 use sqlite_items::Items;
 use std::alloc::{AllocError, Global};

@@ -1,6 +1,6 @@
 //! Which operands an operator takes, and the type of its result. None stands where they do not fit.
 ghost use Rattle.std.specs.Prelude.{◌≡◌, IfOk};
-ghost use Rattle.floyd_declarators.specs.Types.{pointee as pointee_lem};
+ghost use Rattle.floyd_elab_names.specs.Types.{pointee as pointee_lem};
 ghost use Rattle.floyd_ctyping.specs.Operators.{is_test as is_test_lem, sign_type as sign_type_lem, not_type as not_type_lem, led_to as led_to_lem, dereferenced as dereferenced_lem, address_type as address_type_lem, common_type as common_type_lem, ordered as ordered_lem, order_type as order_type_lem, compared as compared_lem, binary_type as binary_type_lem, element_type as element_type_lem, is_target as is_target_lem, fits_into as fits_into_lem, is_cast as is_cast_lem, is_stepped as is_stepped_lem};
 
 use crate::operand::Operand;
@@ -9,7 +9,7 @@ use crate::operators::{
     shift_of, sum_of,
 };
 use floyd_ctypes::{CType, StructTable};
-use floyd_declarators::{is_function, is_scalar, is_void, pointee, pointer_to};
+use floyd_elab_names::{is_function, is_scalar, is_void, pointee, pointer_to};
 use floyd_int::{IntKind, IntOp};
 use std::alloc::{AllocError, Global};
 

@@ -1,5 +1,5 @@
 ghost use Rattle.std.specs.Prelude.{◌≡◌};
-ghost use Rattle.floyd_declarators.specs.Types.{promoted as promoted_lem, rank as rank_lem, usual as usual_lem};
+ghost use Rattle.floyd_elab_names.specs.Types.{promoted as promoted_lem, rank as rank_lem, usual as usual_lem};
 
 use floyd_int::IntKind;
 

@@ -2,7 +2,7 @@ ghost use Rattle.std.specs.Prelude.{◌≡◌, IfOk};
 ghost use Rattle.floyd_ctyping.specs.Operators.{value_of_type, object_of_type, is_zero as is_zero_lem, is_object as is_object_lem, is_parameter as is_parameter_lem, value_type as value_type_lem};
 
 use floyd_ctypes::CType;
-use floyd_declarators::decayed;
+use floyd_elab_names::decayed;
 use std::alloc::{AllocError, Global};
 
 /// What an expression may be used for besides its value.

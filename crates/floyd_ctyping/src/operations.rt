@@ -3,9 +3,9 @@ ghost use Rattle.std.specs.Prelude.{◌≡◌, IfOk, is_some, option_and_then};
 ghost use Rattle.std.specs.Option.{option_copied};
 ghost use Rattle.floyd_text.specs.Gives.{Gives};
 ghost use Rattle.floyd_text.specs.declared.refusal.Halt.TheVariants.{Refused};
-ghost use Rattle.floyd_declarators.specs.Refusals.{ill_typed as ill_typed_lem};
-ghost use Rattle.floyd_declarators.specs.declared.tags.Tags.{Tags as Kept};
-ghost use Rattle.floyd_declarators.specs.Types.{tag_of as tag_of_lem};
+ghost use Rattle.floyd_elab_names.specs.Refusals.{ill_typed as ill_typed_lem};
+ghost use Rattle.floyd_elab_names.specs.declared.tags.Tags.{Tags as Kept};
+ghost use Rattle.floyd_elab_names.specs.Types.{tag_of as tag_of_lem};
 ghost use Rattle.floyd_ctyping.specs.Operators.{struct_before as struct_before_lem, called as called_lem, signature_of, with_count};
 ghost use Rattle.floyd_ctyping.specs.Expressions.{standing_in as standing_in_lem, standing_of as standing_of_lem, named as named_lem, gives_value as gives_value_lem, gives_object as gives_object_lem, address_of as address_of_lem, prefix_operator as prefix_operator_lem, cast_to as cast_to_lem, tested as tested_lem, nested_step as nested_step_lem, nested_assignment as nested_assignment_lem, nested_call as nested_call_lem, member as member_lem};
 
@@ -13,9 +13,9 @@ use crate::judge::{
     address_type, dereferenced, is_cast, is_stepped, is_target, is_test, not_type, sign_type,
 };
 use crate::operand::{Operand, Standing};
-use floyd_csyntax::{Identifier, MemberOp, PrefixOp};
+use floyd_cparse_trees::{Identifier, MemberOp, PrefixOp};
 use floyd_ctypes::CType;
-use floyd_declarators::{
+use floyd_elab_names::{
     Meaning, Site, Storage, Tags, bad_cast, ill_typed, left_out, nested_effect, pointee, undeclared,
 };
 use floyd_text::{Halt, Name, Place};

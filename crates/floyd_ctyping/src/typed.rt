@@ -1,7 +1,7 @@
 //! Expressions and their types, in the order in which the text has their parts.
 ghost use Rattle.std.specs.Prelude.{◌≡◌};
-ghost use Rattle.floyd_csyntax.specs.declared.expressions.BinaryOp.TheVariants as binary;
-ghost use Rattle.floyd_declarators.specs.Doing.{GivesWith};
+ghost use Rattle.floyd_cparse_trees.specs.declared.expressions.BinaryOp.TheVariants as binary;
+ghost use Rattle.floyd_elab_names.specs.Doing.{GivesWith};
 ghost use Rattle.floyd_ctyping.specs.Expressions.{literal_operand as literal_operand_lem, sized_type as sized_type_lem, prefixed as prefixed_lem, joined as joined_lem, indexed as indexed_lem, chosen as chosen_lem, typed as typed_lem};
 
 use crate::judge::{binary_type, common_type, element_type};
@@ -10,9 +10,9 @@ use crate::operations::{
     cast_to, gives_object, gives_value, member, misfit, named, nested_assignment, nested_call,
     nested_step, prefix_operator, standing_of, tested,
 };
-use floyd_csyntax::{BinaryOp, CExpr, Literal, Prefix, TypeName};
+use floyd_cparse_trees::{BinaryOp, CExpr, Literal, Prefix, TypeName};
 use floyd_ctypes::CType;
-use floyd_declarators::{Names, Site, Tags, has_size, type_named};
+use floyd_elab_names::{Names, Site, Tags, has_size, type_named};
 use floyd_int::IntKind;
 use floyd_text::{Halt, Place};
 use std::alloc::Global;

@@ -7,15 +7,15 @@ use Rattle.floyd_text.specs.declared.refusal.Halt.TheVariants.{Refused, Memory}
 use Rattle.floyd_text.specs.declared.refusal.Refusal.{Refusal}
 use Rattle.floyd_text.specs.Gives.{Stops}
 use Rattle.floyd_ctypes.specs.declared.ctype.CType.{CType}
-use Rattle.floyd_csyntax.specs.declared.statements.CStatement.{CStatement}
-use Rattle.floyd_csyntax.specs.declared.types.Identifier.{Identifier}
+use Rattle.floyd_cparse_trees.specs.declared.statements.CStatement.{CStatement}
+use Rattle.floyd_cparse_trees.specs.declared.types.Identifier.{Identifier}
 use Rattle.floyd_clight.specs.declared.syntax.Stmt.{Stmt}
 use Rattle.floyd_clight.specs.declared.unit.Local.{Local}
-use Rattle.floyd_declarators.specs.declared.tags.Tags.{Tags}
-use Rattle.floyd_declarators.specs.Scopes.{Scope, Scopes}
-use Rattle.floyd_translation.specs.Behind.{appended}
-use Rattle.floyd_translation.specs.declared.progress.Progress.{Progress}
-use Rattle.floyd_statements.specs.Statements.{body}
+use Rattle.floyd_elab_names.specs.declared.tags.Tags.{Tags}
+use Rattle.floyd_elab_names.specs.Scopes.{Scope, Scopes}
+use Rattle.floyd_elab_expressions.specs.Behind.{appended}
+use Rattle.floyd_elab_expressions.specs.declared.progress.Progress.{Progress}
+use Rattle.floyd_elab_statements.specs.Statements.{body}
 use Rattle.floyd_elab.specs.declared.file.File.{File}
 use Rattle.floyd_elab.specs.Units.{parameter_scope, starting, definition, with_body, bodied}
 use Rattle.floyd_elab.specs.Files.{top, define_function}

@@ -4,17 +4,17 @@ use Rattle.floyd_text.specs.declared.place.Place.{Place}
 use Rattle.floyd_text.specs.declared.refusal.Halt.{Halt}
 use Rattle.floyd_text.specs.Gives.{Stops}
 use Rattle.floyd_ctypes.specs.declared.ctype.CType.{CType}
-use Rattle.floyd_csyntax.specs.declared.declarations.Initialiser.{Initialiser}
-use Rattle.floyd_csyntax.specs.declared.types.Declarator.{Declarator}
-use Rattle.floyd_csyntax.specs.declared.types.Identifier.{Identifier}
-use Rattle.floyd_csyntax.specs.declared.types.Specifiers.{Specifiers}
+use Rattle.floyd_cparse_trees.specs.declared.declarations.Initialiser.{Initialiser}
+use Rattle.floyd_cparse_trees.specs.declared.types.Declarator.{Declarator}
+use Rattle.floyd_cparse_trees.specs.declared.types.Identifier.{Identifier}
+use Rattle.floyd_cparse_trees.specs.declared.types.Specifiers.{Specifiers}
 use Rattle.floyd_clight.specs.declared.unit.Declared.{Declared}
-use Rattle.floyd_declarators.specs.declared.meaning.Meaning.TheVariants as m
-use Rattle.floyd_declarators.specs.declared.meaning.Storage.TheVariants as kept
-use Rattle.floyd_declarators.specs.Doing.{◌>>◌, changed}
-use Rattle.floyd_declarators.specs.Refusals.{ill_typed, redeclared}
-use Rattle.floyd_declarators.specs.Types.{is_object_type, returns_well}
-use Rattle.floyd_contents.specs.Constant.{constant_at}
+use Rattle.floyd_elab_names.specs.declared.meaning.Meaning.TheVariants as m
+use Rattle.floyd_elab_names.specs.declared.meaning.Storage.TheVariants as kept
+use Rattle.floyd_elab_names.specs.Doing.{◌>>◌, changed}
+use Rattle.floyd_elab_names.specs.Refusals.{ill_typed, redeclared}
+use Rattle.floyd_elab_names.specs.Types.{is_object_type, returns_well}
+use Rattle.floyd_elab_data.specs.Constant.{constant_at}
 use Rattle.floyd_elab.specs.declared.file.File.{File}
 use Rattle.floyd_elab.specs.Files.{Filing, top, may_declare, has_variable, is_new, add_meaning, mention_variable, mention_function}
 use Rattle.floyd_elab.specs.Units.{type_declared, defined_if, no_initialiser}

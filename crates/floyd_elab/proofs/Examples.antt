@@ -6,33 +6,33 @@ use Rattle.floyd_text.specs.declared.refusal.Refusal.{Refusal}
 use Rattle.floyd_int.specs.declared.kinds.IntKind.TheVariants.{I32}
 use Rattle.floyd_int.specs.declared.kinds.IntOp.TheVariants as op
 use Rattle.floyd_ctypes.specs.declared.ctype.CType.{Void}
-use Rattle.floyd_csyntax.specs.declared.types.Identifier.{Identifier}
-use Rattle.floyd_csyntax.specs.declared.types.Base as b
-use Rattle.floyd_csyntax.specs.declared.types.Specifiers.{Specifiers}
-use Rattle.floyd_csyntax.specs.declared.declarations.InitDeclarator.{InitDeclarator}
-use Rattle.floyd_declarators.specs.Refusals.{redeclared, left_out}
+use Rattle.floyd_cparse_trees.specs.declared.types.Identifier.{Identifier}
+use Rattle.floyd_cparse_trees.specs.declared.types.Base as b
+use Rattle.floyd_cparse_trees.specs.declared.types.Specifiers.{Specifiers}
+use Rattle.floyd_cparse_trees.specs.declared.declarations.InitDeclarator.{InitDeclarator}
+use Rattle.floyd_elab_names.specs.Refusals.{redeclared, left_out}
 use Rattle.floyd_ctypes.specs.declared.ctype.CType.TheBlock.{shape-the_row-CType-0, hidden-the_row-CType-0, shape-the_row-CType-1, hidden-the_row-CType-1}
-use Rattle.floyd_csyntax.specs.declared.statements.BlockItem.TheBlock.{shape-the_row-BlockItem-0, hidden-the_row-BlockItem-0}
+use Rattle.floyd_cparse_trees.specs.declared.statements.BlockItem.TheBlock.{shape-the_row-BlockItem-0, hidden-the_row-BlockItem-0}
 use denote.Hole.Carrier.{hidden}
-use Rattle.floyd_csyntax.specs.declared.types.Declarator as d
-use Rattle.floyd_csyntax.specs.declared.expressions.BinaryOp.TheVariants as binary
-use Rattle.floyd_csyntax.specs.declared.expressions.CExpr as e
-use Rattle.floyd_csyntax.specs.declared.expressions.Prefix.TheVariants as before
-use Rattle.floyd_csyntax.specs.declared.expressions.PrefixOp.TheVariants as p
-use Rattle.floyd_csyntax.specs.declared.statements.BlockItem as i
-use Rattle.floyd_csyntax.specs.declared.statements.CStatement as c
-use Rattle.floyd_csyntax.specs.declared.declarations.External.TheVariants as external
-use Rattle.floyd_declarators.specs.declared.meaning.Meaning.TheVariants as m
-use Rattle.floyd_declarators.specs.declared.meaning.Storage.TheVariants as kept
-use Rattle.floyd_declarators.specs.Refusals.{ill_typed, nested_effect, undeclared}
-use Rattle.floyd_declarators.specs.Scopes.{Scopes}
-use Rattle.floyd_declarators.specs.Types.{int_type, pointer_to}
+use Rattle.floyd_cparse_trees.specs.declared.types.Declarator as d
+use Rattle.floyd_cparse_trees.specs.declared.expressions.BinaryOp.TheVariants as binary
+use Rattle.floyd_cparse_trees.specs.declared.expressions.CExpr as e
+use Rattle.floyd_cparse_trees.specs.declared.expressions.Prefix.TheVariants as before
+use Rattle.floyd_cparse_trees.specs.declared.expressions.PrefixOp.TheVariants as p
+use Rattle.floyd_cparse_trees.specs.declared.statements.BlockItem as i
+use Rattle.floyd_cparse_trees.specs.declared.statements.CStatement as c
+use Rattle.floyd_cparse_trees.specs.declared.declarations.External.TheVariants as external
+use Rattle.floyd_elab_names.specs.declared.meaning.Meaning.TheVariants as m
+use Rattle.floyd_elab_names.specs.declared.meaning.Storage.TheVariants as kept
+use Rattle.floyd_elab_names.specs.Refusals.{ill_typed, nested_effect, undeclared}
+use Rattle.floyd_elab_names.specs.Scopes.{Scopes}
+use Rattle.floyd_elab_names.specs.Types.{int_type, pointer_to}
 use Rattle.floyd_clight.specs.declared.syntax.Expr.{Expr, Temp, Var}
 use Rattle.floyd_clight.specs.declared.syntax.Stmt.{Stmt, Set, Assign, If, Loop, Skip, Break, Seq, Return}
-use Rattle.floyd_translation.specs.Clight.{pulled_name, kth_name, deref_of, address_of, binary_of, zero, one}
-use Rattle.floyd_translation.specs.declared.progress.Progress.{Progress}
-use Rattle.floyd_effects.specs.Effects.{effect}
-use Rattle.floyd_statements.specs.Statements.{statement}
+use Rattle.floyd_elab_expressions.specs.Clight.{pulled_name, kth_name, deref_of, address_of, binary_of, zero, one}
+use Rattle.floyd_elab_expressions.specs.declared.progress.Progress.{Progress}
+use Rattle.floyd_elab_effects.specs.Effects.{effect}
+use Rattle.floyd_elab_statements.specs.Statements.{statement}
 use Rattle.floyd_elab.specs.Units.{elaborated, starting}
 
 abbrev ident : List ℕ → ℕ → Identifier

@@ -5,8 +5,8 @@ use Rattle.floyd_text.specs.declared.refusal.Halt.{Halt}
 use Rattle.floyd_text.specs.declared.refusal.Halt.TheVariants.{Refused, Memory}
 use Rattle.floyd_text.specs.declared.refusal.Refusal.{Refusal}
 use Rattle.floyd_text.specs.Gives.{Stops, Gives}
-use Rattle.floyd_declarators.specs.declared.tags.Tags.{Tags}
-use Rattle.floyd_declarators.specs.Doing.{Doing, followed, ◌>>=◌, ◌>>◌, unless, of_kept, GivesWith}
+use Rattle.floyd_elab_names.specs.declared.tags.Tags.{Tags}
+use Rattle.floyd_elab_names.specs.Doing.{Doing, followed, ◌>>=◌, ◌>>◌, unless, of_kept, GivesWith}
 use Rattle.floyd_elab.specs.declared.file.File.{File}
 use Rattle.floyd_elab.specs.Files.{with_tags}
 

@@ -5,14 +5,14 @@ use Rattle.floyd_text.specs.declared.refusal.Halt.TheVariants.{Refused, Memory}
 use Rattle.floyd_text.specs.declared.refusal.Refusal.{Refusal}
 use Rattle.floyd_text.specs.Gives.{Stops}
 use Rattle.floyd_ctypes.specs.declared.ctype.CType.{CType}
-use Rattle.floyd_csyntax.specs.declared.declarations.FunctionDefinition.{FunctionDefinition}
-use Rattle.floyd_csyntax.specs.declared.types.Declarator.{Declarator}
-use Rattle.floyd_csyntax.specs.declared.types.Identifier.{Identifier}
-use Rattle.floyd_csyntax.specs.declared.statements.CStatement as c
-use Rattle.floyd_declarators.specs.declared.meaning.Meaning.TheVariants as m
-use Rattle.floyd_declarators.specs.Doing.{Doing, followed, ◌>>=◌, ◌>>◌, unless, of_kept, changed}
-use Rattle.floyd_declarators.specs.Refusals.{ill_typed, redeclared}
-use Rattle.floyd_declarators.specs.Types.{returns_well}
+use Rattle.floyd_cparse_trees.specs.declared.declarations.FunctionDefinition.{FunctionDefinition}
+use Rattle.floyd_cparse_trees.specs.declared.types.Declarator.{Declarator}
+use Rattle.floyd_cparse_trees.specs.declared.types.Identifier.{Identifier}
+use Rattle.floyd_cparse_trees.specs.declared.statements.CStatement as c
+use Rattle.floyd_elab_names.specs.declared.meaning.Meaning.TheVariants as m
+use Rattle.floyd_elab_names.specs.Doing.{Doing, followed, ◌>>=◌, ◌>>◌, unless, of_kept, changed}
+use Rattle.floyd_elab_names.specs.Refusals.{ill_typed, redeclared}
+use Rattle.floyd_elab_names.specs.Types.{returns_well}
 use Rattle.floyd_elab.specs.declared.file.File.{File}
 use Rattle.floyd_elab.specs.Files.{Filing, may_declare, has_body, mention_function}
 use Rattle.floyd_elab.specs.Units.{named, own_parameters, all_named, parameters_of, result_of, type_declared, bodied, function_defined}

@@ -6,26 +6,26 @@ use Rattle.floyd_text.specs.declared.refusal.Refusal.{Refusal}
 use Rattle.floyd_int.specs.declared.kinds.IntKind.TheVariants.{I32, I64}
 use Rattle.floyd_int.specs.declared.kinds.IntOp.TheVariants as op
 use Rattle.floyd_ctypes.specs.declared.ctype.CType.{CType, Int, Void, Struct, Function', more_of-CType, end_of-CType}
-use Rattle.floyd_csyntax.specs.declared.types.Identifier.{Identifier}
-use Rattle.floyd_csyntax.specs.declared.expressions.BinaryOp.TheVariants as binary
-use Rattle.floyd_csyntax.specs.declared.expressions.CExpr as e
-use Rattle.floyd_csyntax.specs.declared.expressions.MemberOp.TheVariants.{Arrow}
-use Rattle.floyd_csyntax.specs.declared.declarations.Constant.TheVariants as constant
-use Rattle.floyd_csyntax.specs.declared.declarations.Initialiser as i
-use Rattle.floyd_declarators.specs.declared.meaning.Meaning.TheVariants as m
-use Rattle.floyd_declarators.specs.declared.meaning.Storage.TheVariants as kept
-use Rattle.floyd_declarators.specs.declared.tags.Tags.{Tags}
-use Rattle.floyd_declarators.specs.Refusals.{ill_typed, undeclared}
-use Rattle.floyd_declarators.specs.Scopes.{Scopes}
-use Rattle.floyd_declarators.specs.Types.{int_type, pointer_to, array_of}
+use Rattle.floyd_cparse_trees.specs.declared.types.Identifier.{Identifier}
+use Rattle.floyd_cparse_trees.specs.declared.expressions.BinaryOp.TheVariants as binary
+use Rattle.floyd_cparse_trees.specs.declared.expressions.CExpr as e
+use Rattle.floyd_cparse_trees.specs.declared.expressions.MemberOp.TheVariants.{Arrow}
+use Rattle.floyd_cparse_trees.specs.declared.declarations.Constant.TheVariants as constant
+use Rattle.floyd_cparse_trees.specs.declared.declarations.Initialiser as i
+use Rattle.floyd_elab_names.specs.declared.meaning.Meaning.TheVariants as m
+use Rattle.floyd_elab_names.specs.declared.meaning.Storage.TheVariants as kept
+use Rattle.floyd_elab_names.specs.declared.tags.Tags.{Tags}
+use Rattle.floyd_elab_names.specs.Refusals.{ill_typed, undeclared}
+use Rattle.floyd_elab_names.specs.Scopes.{Scopes}
+use Rattle.floyd_elab_names.specs.Types.{int_type, pointer_to, array_of}
 use Rattle.floyd_clight.specs.declared.initial.Initial as initial
 use Rattle.floyd_clight.specs.declared.initial.Initial.{Initial}
 use Rattle.floyd_clight.specs.declared.syntax.Expr.{Expr, Temp, Var}
 use Rattle.floyd_clight.specs.declared.syntax.Stmt.{Stmt, Set, Call}
-use Rattle.floyd_translation.specs.Clight.{pulled_name, deref_of, binary_of, cast_of, field_of, zero}
-use Rattle.floyd_translation.specs.declared.progress.Progress.{Progress}
-use Rattle.floyd_effects.specs.Effects.{effect}
-use Rattle.floyd_contents.specs.Contents.{contents}
+use Rattle.floyd_elab_expressions.specs.Clight.{pulled_name, deref_of, binary_of, cast_of, field_of, zero}
+use Rattle.floyd_elab_expressions.specs.declared.progress.Progress.{Progress}
+use Rattle.floyd_elab_effects.specs.Effects.{effect}
+use Rattle.floyd_elab_data.specs.Contents.{contents}
 use Rattle.floyd_elab.specs.Units.{starting}
 
 abbrev place : ℕ → Place

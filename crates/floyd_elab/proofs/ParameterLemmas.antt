@@ -8,16 +8,16 @@ use denote.Hole.Carrier.{hidden}
 use Rattle.floyd_text.specs.declared.place.Place.{Place}
 use Rattle.floyd_ctypes.specs.declared.ctype.CType.{CType, Void, Function}
 use Rattle.floyd_ctypes.specs.declared.ctype.CType.TheBlock.{shape-the_row-CType-0, hidden-the_row-CType-0, items_hidden-the_row-CType-1}
-use Rattle.floyd_csyntax.specs.declared.types.Base.TheBlock.{shape-the_row-Declarator-2, hidden-the_row-Declarator-2, hidden-the_row-Parameter-3, items_hidden-the_row-Parameter-3}
-use Rattle.floyd_csyntax.specs.declared.types.Declarator as d
-use Rattle.floyd_csyntax.specs.declared.types.Identifier.{Identifier}
-use Rattle.floyd_csyntax.specs.declared.types.Literal.{Literal}
-use Rattle.floyd_csyntax.specs.declared.types.Parameter.{Parameter}
-use Rattle.floyd_csyntax.specs.declared.types.Star.{Star}
+use Rattle.floyd_cparse_trees.specs.declared.types.Base.TheBlock.{shape-the_row-Declarator-2, hidden-the_row-Declarator-2, hidden-the_row-Parameter-3, items_hidden-the_row-Parameter-3}
+use Rattle.floyd_cparse_trees.specs.declared.types.Declarator as d
+use Rattle.floyd_cparse_trees.specs.declared.types.Identifier.{Identifier}
+use Rattle.floyd_cparse_trees.specs.declared.types.Literal.{Literal}
+use Rattle.floyd_cparse_trees.specs.declared.types.Parameter.{Parameter}
+use Rattle.floyd_cparse_trees.specs.declared.types.Star.{Star}
 use Rattle.floyd_clight.specs.declared.unit.Declared.{Declared}
 use Rattle.floyd_clight.specs.declared.unit.Local.{Local}
 use Rattle.floyd_ctyping.specs.Operators.{signature_of}
-use Rattle.floyd_declarators.specs.Declarators.{name_of, is_bare}
+use Rattle.floyd_elab_names.specs.Declarators.{name_of, is_bare}
 use Rattle.floyd_elab.specs.Files.{declaration_of}
 use Rattle.floyd_elab.specs.Units.{parameter_names, own_parameters, paired, parameters_of, result_of}
 use Rattle.floyd_elab.specs.Parts.{names_of, local_of, with_function}

@@ -3,10 +3,10 @@ use Rattle.std.proofs.Common.{◌≡◌, ℕ, List, [], ◌∷◌, ◌++◌, Opt
 use Rattle.std.specs.Option.{option_or}
 use Rattle.std.specs.Map.{lookup}
 use Rattle.floyd_ctypes.specs.declared.ctype.CType.{CType}
-use Rattle.floyd_declarators.specs.declared.meaning.Meaning.{Meaning}
-use Rattle.floyd_declarators.specs.declared.meaning.Meaning.TheVariants as m
-use Rattle.floyd_declarators.specs.declared.meaning.Storage.TheVariants as kept
-use Rattle.floyd_declarators.specs.Scopes.{Scope, Scopes, meaning_of, entered, with_meaning}
+use Rattle.floyd_elab_names.specs.declared.meaning.Meaning.{Meaning}
+use Rattle.floyd_elab_names.specs.declared.meaning.Meaning.TheVariants as m
+use Rattle.floyd_elab_names.specs.declared.meaning.Storage.TheVariants as kept
+use Rattle.floyd_elab_names.specs.Scopes.{Scope, Scopes, meaning_of, entered, with_meaning}
 use Rattle.floyd_elab.specs.Files.{is_again}
 use Rattle.floyd_elab.specs.Tables.{innermost}
 

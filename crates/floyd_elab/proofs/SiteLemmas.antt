@@ -3,15 +3,15 @@ use Rattle.std.proofs.Common.{◌≡◌, Bool, true, false, Result, Ok, Err, ap,
 use Rattle.floyd_text.specs.declared.refusal.Halt.{Halt}
 use Rattle.floyd_text.specs.declared.refusal.Refusal.{Refusal}
 use Rattle.floyd_ctypes.specs.declared.ctype.CType.{CType}
-use Rattle.floyd_csyntax.specs.declared.types.Base.{Base}
-use Rattle.floyd_csyntax.specs.declared.types.Declarator.{Declarator}
-use Rattle.floyd_declarators.specs.declared.tags.Tags.{Tags}
-use Rattle.floyd_declarators.specs.Doing.{GivesWith, unless}
-use Rattle.floyd_declarators.specs.Refusals.{Site, left_out}
-use Rattle.floyd_declarators.specs.Scopes.{Scopes}
-use Rattle.floyd_declarators.specs.Types.{is_object_within}
-use Rattle.floyd_declarators.specs.Declarators.{limit_site, base_type, declarator_type}
-use Rattle.floyd_statements.specs.Locals.{nowhere}
+use Rattle.floyd_cparse_trees.specs.declared.types.Base.{Base}
+use Rattle.floyd_cparse_trees.specs.declared.types.Declarator.{Declarator}
+use Rattle.floyd_elab_names.specs.declared.tags.Tags.{Tags}
+use Rattle.floyd_elab_names.specs.Doing.{GivesWith, unless}
+use Rattle.floyd_elab_names.specs.Refusals.{Site, left_out}
+use Rattle.floyd_elab_names.specs.Scopes.{Scopes}
+use Rattle.floyd_elab_names.specs.Types.{is_object_within}
+use Rattle.floyd_elab_names.specs.Declarators.{limit_site, base_type, declarator_type}
+use Rattle.floyd_elab_statements.specs.Locals.{nowhere}
 use Rattle.floyd_elab.specs.declared.file.File.{File}
 use Rattle.floyd_elab.specs.Files.{top}
 use Rattle.floyd_elab.specs.Parts.{base_declared, any_type_declared, unless_large}

@@ -3,8 +3,8 @@ use Rattle.std.proofs.Common.{◌≡◌, List, Ok, ap, sym, ◌∙◌}
 use Rattle.floyd_text.specs.declared.refusal.Halt.{Halt}
 use Rattle.floyd_text.specs.declared.refusal.Halt.TheVariants.{Refused, Memory}
 use Rattle.floyd_text.specs.Gives.{Stops}
-use Rattle.floyd_csyntax.specs.declared.declarations.CUnit.{CUnit}
-use Rattle.floyd_csyntax.specs.declared.declarations.External.{External}
+use Rattle.floyd_cparse_trees.specs.declared.declarations.CUnit.{CUnit}
+use Rattle.floyd_cparse_trees.specs.declared.declarations.External.{External}
 use Rattle.floyd_clight.specs.declared.unit.ClightUnit.{ClightUnit}
 use Rattle.floyd_elab.specs.declared.file.File.{File}
 use Rattle.floyd_elab.specs.Units.{externals_elaborated, nothing_declared, unit_of, unit_in, elaborated}

@@ -6,7 +6,7 @@ use Rattle.floyd_text.specs.declared.refusal.Halt.{Halt}
 use Rattle.floyd_text.specs.declared.refusal.Halt.TheVariants.{Refused, Memory}
 use Rattle.floyd_text.specs.declared.refusal.Refusal.{Refusal}
 use Rattle.floyd_text.specs.Gives.{Stops}
-use Rattle.floyd_declarators.specs.Doing.{Doing, followed}
+use Rattle.floyd_elab_names.specs.Doing.{Doing, followed}
 
 module _ {X S : Type 0} (step : X → Doing S (Unit {0})) (all_of : List X → Doing S (Unit {0}))
     (none : (s : S) → all_of [] s ≡ Ok (tt, s)) (one : (x : X) (xs : List X) (s : S) → all_of (x ∷ xs) s ≡ followed (step x s) (λ _. all_of xs)) where

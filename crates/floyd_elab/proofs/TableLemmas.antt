@@ -3,7 +3,7 @@ use Rattle.std.proofs.Common.{◌≡◌, ℕ, Bool, true, false, ◌||◌, List,
 use Rattle.std.specs.List.{list_any}
 use Rattle.floyd_clight.specs.declared.unit.Defined.{Defined}
 use Rattle.floyd_clight.specs.declared.unit.Variable.{Variable}
-use Rattle.floyd_declarators.specs.Scopes.{is_among}
+use Rattle.floyd_elab_names.specs.Scopes.{is_among}
 use Rattle.floyd_elab.specs.Tables.{is_variable, is_body, AddsName}
 
 exchanged : (a b c : Bool) → (a || (b || c)) ≡ (b || (a || c))

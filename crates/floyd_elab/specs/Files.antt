@@ -4,15 +4,15 @@ use Rattle.std.specs.List.{list_any}
 use Rattle.std.specs.Map.{lookup}
 use Rattle.floyd_text.specs.declared.refusal.Refusal.{Refusal}
 use Rattle.floyd_ctypes.specs.declared.ctype.CType.{CType}
-use Rattle.floyd_csyntax.specs.declared.types.Identifier.{Identifier}
-use Rattle.floyd_declarators.specs.declared.meaning.Meaning.{Meaning}
-use Rattle.floyd_declarators.specs.declared.meaning.Meaning.TheVariants as m
-use Rattle.floyd_declarators.specs.declared.meaning.Storage.TheVariants as kept
-use Rattle.floyd_declarators.specs.declared.tags.Tags.{Tags}
-use Rattle.floyd_declarators.specs.Doing.{Doing}
-use Rattle.floyd_declarators.specs.Typing.{Typing}
-use Rattle.floyd_declarators.specs.Scopes.{Scopes}
-use Rattle.floyd_declarators.specs.Types.{same_type}
+use Rattle.floyd_cparse_trees.specs.declared.types.Identifier.{Identifier}
+use Rattle.floyd_elab_names.specs.declared.meaning.Meaning.{Meaning}
+use Rattle.floyd_elab_names.specs.declared.meaning.Meaning.TheVariants as m
+use Rattle.floyd_elab_names.specs.declared.meaning.Storage.TheVariants as kept
+use Rattle.floyd_elab_names.specs.declared.tags.Tags.{Tags}
+use Rattle.floyd_elab_names.specs.Doing.{Doing}
+use Rattle.floyd_elab_names.specs.Typing.{Typing}
+use Rattle.floyd_elab_names.specs.Scopes.{Scopes}
+use Rattle.floyd_elab_names.specs.Types.{same_type}
 use Rattle.floyd_ctyping.specs.Operators.{signature_of}
 use Rattle.floyd_clight.specs.declared.initial.Initial.{Initial}
 use Rattle.floyd_clight.specs.declared.unit.Declared.{Declared}

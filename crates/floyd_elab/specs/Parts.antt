@@ -5,29 +5,29 @@ use Rattle.std.specs.Option.{unwrap_or}
 use Rattle.floyd_ctypes.specs.declared.ctype.CType.{CType}
 use Rattle.floyd_ctypes.specs.declared.field.Field.{Field}
 use Rattle.floyd_ctypes.specs.Structs.{Structs, fields_of}
-use Rattle.floyd_csyntax.specs.declared.declarations.FunctionDefinition.{FunctionDefinition}
-use Rattle.floyd_csyntax.specs.declared.declarations.InitDeclarator.{InitDeclarator}
-use Rattle.floyd_csyntax.specs.declared.declarations.Initialiser.{Initialiser}
-use Rattle.floyd_csyntax.specs.declared.types.Base.{Base}
-use Rattle.floyd_csyntax.specs.declared.types.Declarator.{Declarator}
-use Rattle.floyd_csyntax.specs.declared.types.Identifier.{Identifier}
-use Rattle.floyd_csyntax.specs.declared.types.Parameter.{Parameter}
-use Rattle.floyd_csyntax.specs.declared.types.Specifiers.{Specifiers}
+use Rattle.floyd_cparse_trees.specs.declared.declarations.FunctionDefinition.{FunctionDefinition}
+use Rattle.floyd_cparse_trees.specs.declared.declarations.InitDeclarator.{InitDeclarator}
+use Rattle.floyd_cparse_trees.specs.declared.declarations.Initialiser.{Initialiser}
+use Rattle.floyd_cparse_trees.specs.declared.types.Base.{Base}
+use Rattle.floyd_cparse_trees.specs.declared.types.Declarator.{Declarator}
+use Rattle.floyd_cparse_trees.specs.declared.types.Identifier.{Identifier}
+use Rattle.floyd_cparse_trees.specs.declared.types.Parameter.{Parameter}
+use Rattle.floyd_cparse_trees.specs.declared.types.Specifiers.{Specifiers}
 use Rattle.floyd_text.specs.declared.place.Place.{Place}
-use Rattle.floyd_declarators.specs.declared.meaning.Meaning.TheVariants as m
-use Rattle.floyd_declarators.specs.declared.meaning.Storage.TheVariants as kept
-use Rattle.floyd_declarators.specs.declared.tags.Tags.{Tags}
-use Rattle.floyd_declarators.specs.Refusals.{left_out, ill_typed, redeclared}
-use Rattle.floyd_declarators.specs.Doing.{◌>>=◌, ◌>>◌, unless, of_kept, changed}
-use Rattle.floyd_declarators.specs.Types.{is_function, is_object_within, is_object_type, returns_well}
-use Rattle.floyd_declarators.specs.Declarators.{name_of, limit_site, base_type, declarator_type}
+use Rattle.floyd_elab_names.specs.declared.meaning.Meaning.TheVariants as m
+use Rattle.floyd_elab_names.specs.declared.meaning.Storage.TheVariants as kept
+use Rattle.floyd_elab_names.specs.declared.tags.Tags.{Tags}
+use Rattle.floyd_elab_names.specs.Refusals.{left_out, ill_typed, redeclared}
+use Rattle.floyd_elab_names.specs.Doing.{◌>>=◌, ◌>>◌, unless, of_kept, changed}
+use Rattle.floyd_elab_names.specs.Types.{is_function, is_object_within, is_object_type, returns_well}
+use Rattle.floyd_elab_names.specs.Declarators.{name_of, limit_site, base_type, declarator_type}
 use Rattle.floyd_ctyping.specs.Operators.{signature_of}
 use Rattle.floyd_clight.specs.declared.unit.Declared.{Declared}
 use Rattle.floyd_clight.specs.declared.unit.Local.{Local}
 use Rattle.floyd_clight.specs.declared.unit.Variable.{Variable}
-use Rattle.floyd_statements.specs.Locals.{nowhere}
-use Rattle.floyd_declarators.specs.Typing.{the_structs}
-use Rattle.floyd_contents.specs.Constant.{constant_at}
+use Rattle.floyd_elab_statements.specs.Locals.{nowhere}
+use Rattle.floyd_elab_names.specs.Typing.{the_structs}
+use Rattle.floyd_elab_data.specs.Constant.{constant_at}
 use Rattle.floyd_elab.specs.declared.file.File.{File}
 use Rattle.floyd_elab.specs.Files.{Filing, top, typing, may_declare, has_variable, has_body, is_new, add_meaning, mention_variable, mention_function, declaration_of}
 use Rattle.floyd_elab.specs.Tables.{is_variable}

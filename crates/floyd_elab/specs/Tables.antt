@@ -4,9 +4,9 @@ use Rattle.std.specs.List.{list_any}
 use Rattle.floyd_clight.specs.declared.unit.Defined.{Defined}
 use Rattle.floyd_clight.specs.declared.unit.Local.{Local}
 use Rattle.floyd_clight.specs.declared.unit.Variable.{Variable}
-use Rattle.floyd_declarators.specs.declared.meaning.Meaning.TheVariants as m
-use Rattle.floyd_declarators.specs.declared.meaning.Storage.TheVariants as kept
-use Rattle.floyd_declarators.specs.Scopes.{Scope, Scopes, is_among, with_meaning}
+use Rattle.floyd_elab_names.specs.declared.meaning.Meaning.TheVariants as m
+use Rattle.floyd_elab_names.specs.declared.meaning.Storage.TheVariants as kept
+use Rattle.floyd_elab_names.specs.Scopes.{Scope, Scopes, is_among, with_meaning}
 
 -- the innermost scope
 abbrev pub innermost : Scopes → Scope

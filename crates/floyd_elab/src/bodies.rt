@@ -1,9 +1,9 @@
 //! Bodies of functions.
 ghost use Rattle.std.specs.Prelude.{◌≡◌, ◌∷◌, IfOk, OnOk};
 ghost use Rattle.floyd_text.specs.Gives.{Gives};
-ghost use Rattle.floyd_csyntax.specs.declared.statements.CStatement.{Block};
-ghost use Rattle.floyd_declarators.specs.Doing.{GivesWith};
-ghost use Rattle.floyd_statements.specs.Statements.{body as body_lem};
+ghost use Rattle.floyd_cparse_trees.specs.declared.statements.CStatement.{Block};
+ghost use Rattle.floyd_elab_names.specs.Doing.{GivesWith};
+ghost use Rattle.floyd_elab_statements.specs.Statements.{body as body_lem};
 ghost use Rattle.floyd_elab.specs.Units.{parameter_scope, starting as starting_lem, definition, bodied as bodied_lem};
 ghost use Rattle.floyd_elab.specs.Files.{top, define_function};
 ghost use Rattle.floyd_elab.specs.Parts.{local_names, without_tags};
@@ -12,12 +12,12 @@ ghost use Rattle.floyd_elab.specs.Tables.{with_parameter};
 use crate::file::File;
 use crate::scope::FileScope;
 use floyd_clight::{Defined, Local, LocalList, StmtList};
-use floyd_csyntax::{BlockItem, Identifier};
+use floyd_cparse_trees::{BlockItem, Identifier};
 use floyd_ctypes::CType;
-use floyd_declarators::{Meaning, Names, Storage, Tags};
-use floyd_statements::body;
+use floyd_elab_expressions::{NameList, Progress, sequence};
+use floyd_elab_names::{Meaning, Names, Storage, Tags};
+use floyd_elab_statements::body;
 use floyd_text::Halt;
-use floyd_translation::{NameList, Progress, sequence};
 use sqlite_items::Items;
 use std::alloc::{AllocError, Global};
 

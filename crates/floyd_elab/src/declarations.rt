@@ -1,5 +1,5 @@
 //! Variables and functions that one declaration declares.
-ghost use Rattle.floyd_declarators.specs.Doing.{GivesWith};
+ghost use Rattle.floyd_elab_names.specs.Doing.{GivesWith};
 ghost use Rattle.floyd_elab.specs.Parts.{unless_constant as unless_constant_lem, declared_as as declared_as_lem};
 ghost use Rattle.floyd_elab.specs.Units.{declared as declared_lem, all_declared as all_declared_lem};
 
@@ -7,10 +7,10 @@ use crate::file::File;
 use crate::functions::function;
 use crate::sites::type_declared;
 use crate::variables::variable;
-use floyd_contents::constant_at;
-use floyd_csyntax::{Declarator, InitDeclarator, Specifiers};
+use floyd_cparse_trees::{Declarator, InitDeclarator, Specifiers};
 use floyd_ctypes::CType;
-use floyd_declarators::{is_function, left_out};
+use floyd_elab_data::constant_at;
+use floyd_elab_names::{is_function, left_out};
 use floyd_text::Halt;
 use std::alloc::Global;
 

@@ -1,7 +1,7 @@
 //! What elaboration keeps while it goes through the declarations of a file.
 ghost use Rattle.std.specs.Prelude.{◌≡◌, [], Some, IfOk, OnOk};
-ghost use Rattle.floyd_declarators.specs.declared.meaning.Meaning.TheVariants as m;
-ghost use Rattle.floyd_declarators.specs.declared.meaning.Storage.TheVariants as kept;
+ghost use Rattle.floyd_elab_names.specs.declared.meaning.Meaning.TheVariants as m;
+ghost use Rattle.floyd_elab_names.specs.declared.meaning.Storage.TheVariants as kept;
 ghost use Rattle.floyd_elab.specs.Files.{top, is_again, may_declare, is_new as is_new_lem, add_meaning as add_meaning_lem};
 ghost use Rattle.floyd_elab.specs.Units.{nothing_declared};
 ghost use Rattle.floyd_elab.specs.Parts.{no_tags as no_tags_lem, without_names, without_tags};
@@ -10,7 +10,7 @@ use crate::scope::FileScope;
 use crate::tables::{DefinedFunctions, DefinedVariables};
 use floyd_clight::{DeclaredList, VariableList};
 use floyd_ctypes::{CType, StructTable};
-use floyd_declarators::{Meaning, Names, Tags, same_type};
+use floyd_elab_names::{Meaning, Names, Tags, same_type};
 use floyd_text::Name;
 use sqlite_items::Items;
 use std::alloc::{AllocError, Global};

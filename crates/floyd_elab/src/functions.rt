@@ -1,6 +1,6 @@
 //! Functions that are declared.
 ghost use Rattle.std.specs.Prelude.{◌≡◌, OnOk};
-ghost use Rattle.floyd_declarators.specs.Doing.{GivesWith};
+ghost use Rattle.floyd_elab_names.specs.Doing.{GivesWith};
 ghost use Rattle.floyd_elab.specs.Files.{mention_function as mention_function_lem, declaration_of};
 ghost use Rattle.floyd_elab.specs.Units.{no_initialiser as no_initialiser_lem, function as function_lem};
 ghost use Rattle.floyd_elab.specs.Parts.{with_function, function_judged, function_named as function_named_lem};
@@ -9,9 +9,9 @@ use crate::file::File;
 use crate::parameters::shared_types;
 use crate::sites::named;
 use floyd_clight::{Declared, DeclaredList};
-use floyd_csyntax::{Identifier, InitDeclarator, Initialiser};
+use floyd_cparse_trees::{Identifier, InitDeclarator, Initialiser};
 use floyd_ctypes::CType;
-use floyd_declarators::{Meaning, ill_typed, redeclared, returns_well};
+use floyd_elab_names::{Meaning, ill_typed, redeclared, returns_well};
 use floyd_text::{Halt, Place};
 use std::alloc::{AllocError, Global};
 

@@ -1,9 +1,9 @@
 //! Functions with a body.
 ghost use Rattle.std.specs.Prelude.{◌≡◌, ◌&&◌, not};
-ghost use Rattle.floyd_csyntax.specs.declared.statements.CStatement.{Block};
-ghost use Rattle.floyd_declarators.specs.declared.meaning.Meaning.TheVariants as m;
-ghost use Rattle.floyd_declarators.specs.Doing.{GivesWith};
-ghost use Rattle.floyd_declarators.specs.Types.{returns_well as returns_well_lem};
+ghost use Rattle.floyd_cparse_trees.specs.declared.statements.CStatement.{Block};
+ghost use Rattle.floyd_elab_names.specs.declared.meaning.Meaning.TheVariants as m;
+ghost use Rattle.floyd_elab_names.specs.Doing.{GivesWith};
+ghost use Rattle.floyd_elab_names.specs.Types.{returns_well as returns_well_lem};
 ghost use Rattle.floyd_elab.specs.Files.{may_declare, has_body};
 ghost use Rattle.floyd_elab.specs.Units.{own_parameters, all_named as all_named_lem, parameters_of as parameters_of_lem, result_of as result_of_lem, bodied as bodied_lem, function_defined as function_defined_lem};
 ghost use Rattle.floyd_elab.specs.Parts.{type_of_heading, judged};
@@ -13,9 +13,9 @@ use crate::file::File;
 use crate::functions::mention_function;
 use crate::parameters::{all_named, parameters_of, result_of};
 use crate::sites::{base_declared, named, type_declared};
-use floyd_csyntax::{Declarator, FunctionDefinition, Identifier};
+use floyd_cparse_trees::{Declarator, FunctionDefinition, Identifier};
 use floyd_ctypes::CType;
-use floyd_declarators::{ill_typed, redeclared, returns_well};
+use floyd_elab_names::{ill_typed, redeclared, returns_well};
 use floyd_text::{Halt, Name};
 use std::alloc::Global;
 

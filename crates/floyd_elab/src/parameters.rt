@@ -2,14 +2,14 @@
 ghost use Rattle.std.specs.Prelude.{◌≡◌, IfOk, is_some, option_map};
 ghost use Rattle.std.specs.List.{list_all};
 ghost use Rattle.std.specs.Option.{option_copied};
-ghost use Rattle.floyd_declarators.specs.Declarators.{name_of as name_of_lem};
+ghost use Rattle.floyd_elab_names.specs.Declarators.{name_of as name_of_lem};
 ghost use Rattle.floyd_elab.specs.Units.{own_parameters as own_parameters_lem, all_named as all_named_lem, paired as paired_lem, parameters_of as parameters_of_lem, result_of as result_of_lem};
 ghost use Rattle.floyd_elab.specs.Parts.{names_of, local_of};
 
 use floyd_clight::{Local, LocalList};
-use floyd_csyntax::{Declarator, Parameter};
+use floyd_cparse_trees::{Declarator, Parameter};
 use floyd_ctypes::{CType, TypeList};
-use floyd_declarators::{is_bare, name_of};
+use floyd_elab_names::{is_bare, name_of};
 use sqlite_items::{Items, at};
 use std::alloc::{AllocError, Global};
 

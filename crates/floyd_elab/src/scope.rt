@@ -4,7 +4,7 @@ ghost use Rattle.std.specs.Option.{option_copied};
 ghost use Rattle.std.specs.Map.{lookup};
 ghost use Rattle.floyd_elab.specs.Tables.{innermost};
 
-use floyd_declarators::{Meaning, Names};
+use floyd_elab_names::{Meaning, Names};
 use floyd_text::Name;
 use std::alloc::{AllocError, Global};
 use std::marker::Model;
@@ -18,8 +18,8 @@ pub(crate) struct FileScope {
 impl Model for FileScope {
     ghost use Rattle.std.specs.Prelude.{◌≡◌, ◌∷◌, []};
     ghost use Rattle.std.specs.Coded.{codes};
-    ghost use Rattle.floyd_declarators.specs.contracts.meaning.Meaning as meaning;
-    ghost use Rattle.floyd_declarators.specs.Scopes.{Scope};
+    ghost use Rattle.floyd_elab_names.specs.contracts.meaning.Meaning as meaning;
+    ghost use Rattle.floyd_elab_names.specs.Scopes.{Scope};
 
     ghost Value = { Scope };
 

@@ -1,14 +1,14 @@
 //! Names of declarators at the top of a file, and their types.
 ghost use Rattle.std.specs.Prelude.{◌≡◌, IfOk};
-ghost use Rattle.floyd_declarators.specs.Doing.{GivesWith};
-ghost use Rattle.floyd_statements.specs.Locals.{nowhere as nowhere_lem};
+ghost use Rattle.floyd_elab_names.specs.Doing.{GivesWith};
+ghost use Rattle.floyd_elab_statements.specs.Locals.{nowhere as nowhere_lem};
 ghost use Rattle.floyd_elab.specs.Units.{named as named_lem, type_declared as type_declared_lem};
 ghost use Rattle.floyd_elab.specs.Parts.{no_name as no_name_lem, base_declared as base_declared_lem, any_type_declared as any_type_declared_lem, unless_large as unless_large_lem};
 
 use crate::file::File;
-use floyd_csyntax::{Base, Declarator, Identifier};
+use floyd_cparse_trees::{Base, Declarator, Identifier};
 use floyd_ctypes::CType;
-use floyd_declarators::{
+use floyd_elab_names::{
     Site, base_type, declarator_type, is_object_within, left_out, limit_site, name_of,
 };
 use floyd_text::{Halt, Name, Place};

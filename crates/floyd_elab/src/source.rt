@@ -1,7 +1,7 @@
 //! A whole source.
 ghost use Rattle.floyd_text.specs.Gives.{Gives};
-ghost use Rattle.floyd_csyntax.specs.declared.declarations.External.TheVariants as external;
-ghost use Rattle.floyd_declarators.specs.Doing.{GivesWith};
+ghost use Rattle.floyd_cparse_trees.specs.declared.declarations.External.TheVariants as external;
+ghost use Rattle.floyd_elab_names.specs.Doing.{GivesWith};
 ghost use Rattle.floyd_elab.specs.Units.{external_elaborated as external_elaborated_lem, externals_elaborated as externals_elaborated_lem, elaborated};
 
 use crate::declarations::all_declared;
@@ -11,7 +11,7 @@ use crate::sites::base_declared;
 use crate::typedefs::all_typedefs;
 use crate::units::unit_of;
 use floyd_clight::ClightUnit;
-use floyd_csyntax::{CUnit, Declaration, External, Typedef};
+use floyd_cparse_trees::{CUnit, Declaration, External, Typedef};
 use floyd_text::Halt;
 use std::alloc::Global;
 

@@ -1,7 +1,7 @@
 //! What a file defines, found by its names.
 ghost use Rattle.std.specs.Prelude.{◌≡◌, ◌<◌, ◌++◌, ◌∷◌, [], ℕ, List, OnOk};
 ghost use Rattle.indexmap.specs.IndexSet.{spare, IsUnchanged};
-ghost use Rattle.floyd_declarators.specs.Scopes.{is_among};
+ghost use Rattle.floyd_elab_names.specs.Scopes.{is_among};
 ghost use Rattle.floyd_elab.specs.Tables.{is_variable, is_body, AddsName};
 
 use floyd_clight::{Defined, DefinedList, Variable, VariableList};
@@ -29,7 +29,7 @@ impl Model for DefinedVariables {
 
     ghost coded = { Prim.hlevel (codes, ctype.the_row.coded, initial.the_row.coded) };
 
-    ghost use Rattle.floyd_declarators.specs.Scopes.{is_among};
+    ghost use Rattle.floyd_elab_names.specs.Scopes.{is_among};
     ghost use Rattle.floyd_elab.specs.Tables.{is_variable};
 
     ghost view = { λ v. v.items };
@@ -91,7 +91,7 @@ impl Model for DefinedFunctions {
 
     ghost coded = { Prim.hlevel (codes, ctype.the_row.coded, stmt.the_row.coded) };
 
-    ghost use Rattle.floyd_declarators.specs.Scopes.{is_among};
+    ghost use Rattle.floyd_elab_names.specs.Scopes.{is_among};
     ghost use Rattle.floyd_elab.specs.Tables.{is_body};
 
     ghost view = { λ b. b.items };

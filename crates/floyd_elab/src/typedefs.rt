@@ -1,18 +1,18 @@
 //! Names of types of a file.
 ghost use Rattle.std.specs.Prelude.{◌≡◌, IfOk, OnOk, is_some};
-ghost use Rattle.floyd_declarators.specs.declared.meaning.Meaning.TheVariants as m;
-ghost use Rattle.floyd_declarators.specs.Doing.{GivesWith};
-ghost use Rattle.floyd_contents.specs.Constant.{constant_at as constant_at_lem};
+ghost use Rattle.floyd_elab_names.specs.declared.meaning.Meaning.TheVariants as m;
+ghost use Rattle.floyd_elab_names.specs.Doing.{GivesWith};
+ghost use Rattle.floyd_elab_data.specs.Constant.{constant_at as constant_at_lem};
 ghost use Rattle.floyd_elab.specs.Files.{top, add_meaning};
 ghost use Rattle.floyd_elab.specs.Parts.{typedef_judged, type_named as type_named_lem};
 ghost use Rattle.floyd_elab.specs.Units.{typedef as typedef_lem, all_typedefs as all_typedefs_lem};
 
 use crate::file::File;
 use crate::sites::{named, type_declared};
-use floyd_contents::constant_at;
-use floyd_csyntax::{Declarator, Identifier, Specifiers};
+use floyd_cparse_trees::{Declarator, Identifier, Specifiers};
 use floyd_ctypes::CType;
-use floyd_declarators::{Meaning, ill_typed, redeclared, returns_well};
+use floyd_elab_data::constant_at;
+use floyd_elab_names::{Meaning, ill_typed, redeclared, returns_well};
 use floyd_text::Halt;
 use std::alloc::{AllocError, Global};
 

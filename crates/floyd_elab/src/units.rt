@@ -6,9 +6,9 @@ ghost use Rattle.floyd_elab.specs.Parts.{all_fields, not_among};
 use crate::file::File;
 use crate::tables::DefinedVariables;
 use floyd_clight::{ClightUnit, StructDef, StructList, Variable, VariableList};
-use floyd_csyntax::Identifier;
+use floyd_cparse_trees::Identifier;
 use floyd_ctypes::{Field, FieldList, StructTable};
-use floyd_declarators::Tags;
+use floyd_elab_names::Tags;
 use sqlite_items::Items;
 use std::alloc::{AllocError, Global};
 

@@ -1,8 +1,8 @@
 //! Variables of a file.
 ghost use Rattle.std.specs.Prelude.{◌≡◌, ◌&&◌, ◌||◌, OnOk, true, not, is_some};
-ghost use Rattle.floyd_declarators.specs.declared.meaning.Meaning.TheVariants as m;
-ghost use Rattle.floyd_declarators.specs.declared.meaning.Storage.TheVariants as kept;
-ghost use Rattle.floyd_declarators.specs.Doing.{GivesWith};
+ghost use Rattle.floyd_elab_names.specs.declared.meaning.Meaning.TheVariants as m;
+ghost use Rattle.floyd_elab_names.specs.declared.meaning.Storage.TheVariants as kept;
+ghost use Rattle.floyd_elab_names.specs.Doing.{GivesWith};
 ghost use Rattle.floyd_elab.specs.Files.{may_declare, has_variable, mention_variable as mention_variable_lem};
 ghost use Rattle.floyd_elab.specs.Parts.{variable_judged, variable_named as variable_named_lem};
 ghost use Rattle.floyd_elab.specs.Units.{contents_of as contents_of_lem, defined_if, variable as variable_lem};
@@ -10,10 +10,10 @@ ghost use Rattle.floyd_elab.specs.Units.{contents_of as contents_of_lem, defined
 use crate::file::File;
 use crate::sites::named;
 use floyd_clight::{Initial, Variable};
-use floyd_contents::contents;
-use floyd_csyntax::{Identifier, InitDeclarator, Initialiser};
+use floyd_cparse_trees::{Identifier, InitDeclarator, Initialiser};
 use floyd_ctypes::CType;
-use floyd_declarators::{Meaning, Storage, ill_typed, is_object_type, redeclared};
+use floyd_elab_data::contents;
+use floyd_elab_names::{Meaning, Storage, ill_typed, is_object_type, redeclared};
 use floyd_text::{Halt, Name, Place};
 use std::alloc::{AllocError, Global};
 

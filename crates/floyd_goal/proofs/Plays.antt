@@ -7,8 +7,8 @@ use Rattle.floyd_goal.specs.declared.goal.Goal.{Goal}
 use Rattle.floyd_goal.specs.declared.stack.Numbered.{Numbered}
 use Rattle.floyd_goal.specs.declared.script.Command.{Command}
 use Rattle.floyd_goal.specs.declared.script.Proof.{Proof}
-use Rattle.floyd_runs.specs.World.{World}
-use Rattle.floyd_runs.specs.Linked.{world}
+use Rattle.floyd_clight_runs.specs.World.{World}
+use Rattle.floyd_clight_runs.specs.Linked.{world}
 use Rattle.floyd_goal.specs.GoalHolds.{GoalHolds, HoldsFor}
 use Rattle.floyd_goal.specs.Rows.{row}
 use Rattle.floyd_goal.specs.Derivation.{Play, numbered, at_end, on_row, on_first, then_play, played_from, played}

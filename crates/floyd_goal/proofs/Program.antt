@@ -16,15 +16,15 @@ use Rattle.floyd_assert.specs.Heaplet.{Heaplet, empty}
 use Rattle.floyd_assert.specs.Data.{Env}
 use Rattle.floyd_assert.specs.Spec.{Asked}
 use Rattle.floyd_assert.specs.declared.term.Term.{Term}
-use Rattle.floyd_runs.specs.World.{World}
-use Rattle.floyd_runs.specs.Linked.{Function, PreOf, PostOf, world, main, int, main_body, linked}
-use Rattle.floyd_runs.specs.Runs.{has_result}
-use Rattle.floyd_runs.specs.Sound.{Sound}
-use Rattle.floyd_runs.specs.Safe.{Exit, Normal, Broke, Continued, Returned, Exits, Part, with_normal, CallExits, SafeAll}
-use Rattle.floyd_runs.proofs.HeapLaws.{right_empty}
-use Rattle.floyd_runs.proofs.Safety.{conseq}
-use Rattle.floyd_runs.proofs.Induction.{body_exits, DefHolds, AllHold}
-use Rattle.floyd_runs.proofs.Adequate.{EndsWell, sound_run}
+use Rattle.floyd_clight_runs.specs.World.{World}
+use Rattle.floyd_clight_runs.specs.Linked.{Function, PreOf, PostOf, world, main, int, main_body, linked}
+use Rattle.floyd_clight_runs.specs.Runs.{has_result}
+use Rattle.floyd_clight_runs.specs.Sound.{Sound}
+use Rattle.floyd_clight_runs.specs.Safe.{Exit, Normal, Broke, Continued, Returned, Exits, Part, with_normal, CallExits, SafeAll}
+use Rattle.floyd_clight_runs.proofs.HeapLaws.{right_empty}
+use Rattle.floyd_clight_runs.proofs.Safety.{conseq}
+use Rattle.floyd_clight_runs.proofs.Induction.{body_exits, DefHolds, AllHold}
+use Rattle.floyd_clight_runs.proofs.Adequate.{EndsWell, sound_run}
 use Rattle.floyd_goal.specs.declared.script.Proof.{Proof}
 use Rattle.floyd_goal.specs.declared.goal.Exits as g
 use Rattle.floyd_goal.specs.GoalHolds.{Stands, Leaves, GoalHolds}

@@ -22,10 +22,10 @@ use Rattle.floyd_goal.specs.declared.goal.Context.{Context}
 use Rattle.floyd_goal.specs.declared.goal.Exits.{Exits}
 use Rattle.floyd_goal.specs.declared.goal.Goal.{Goal}
 use Rattle.floyd_goal.specs.declared.goal.Goal.TheVariants.{Run, Entail}
-use Rattle.floyd_runs.specs.World.{World}
-use Rattle.floyd_runs.specs.Safe.{KeepsBelow, SafeAll, with_normal}
-use Rattle.floyd_runs.proofs.HeapLaws.{right_empty}
-use Rattle.floyd_runs.proofs.Steps.{set_safe, return_safe}
+use Rattle.floyd_clight_runs.specs.World.{World}
+use Rattle.floyd_clight_runs.specs.Safe.{KeepsBelow, SafeAll, with_normal}
+use Rattle.floyd_clight_runs.proofs.HeapLaws.{right_empty}
+use Rattle.floyd_clight_runs.proofs.Steps.{set_safe, return_safe}
 use Rattle.floyd_goal.specs.GoalHolds.{Stands, Leaves, GoalHolds}
 use Rattle.floyd_goal.specs.Rows.{wrong_goal, and_then, evaluate, kept, conjunction, side_goals, run_goal, with_source_local, forward_set, forward_return, forward, equations, has_left, part_left, cancel, row}
 use Rattle.floyd_goal.proofs.Truths.{kept_true, TruthOf, conjunction_true, all_true_append, all_true_front}

@@ -18,7 +18,7 @@ use Rattle.floyd_goal.specs.declared.goal.Goal.TheVariants.{Run}
 use Rattle.floyd_goal.specs.declared.stack.Numbered.{Numbered}
 use Rattle.floyd_goal.specs.declared.script.Command.{Command}
 use Rattle.floyd_goal.specs.declared.script.Proof.{Proof}
-use Rattle.floyd_runs.specs.Linked.{main_body, int}
+use Rattle.floyd_clight_runs.specs.Linked.{main_body, int}
 use Rattle.floyd_goal.specs.Rows.{row}
 
 -- of main there are no arguments, and no global variables

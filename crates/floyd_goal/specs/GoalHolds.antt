@@ -14,9 +14,9 @@ use Rattle.floyd_goal.specs.declared.goal.Goal.{Goal}
 use Rattle.floyd_goal.specs.declared.goal.Goal.TheVariants.{Run, Entail, Pure}
 use Rattle.floyd_goal.specs.declared.goal.Exits.{Exits}
 use Rattle.floyd_goal.specs.declared.goal.Return as r
-use Rattle.floyd_runs.specs.World.{World}
-use Rattle.floyd_runs.specs.Linked.{Linked, world}
-use Rattle.floyd_runs.specs.Safe.{Exit, Normal, Broke, Continued, Returned, KeepsBelow, SafeAll}
+use Rattle.floyd_clight_runs.specs.World.{World}
+use Rattle.floyd_clight_runs.specs.Linked.{Linked, world}
+use Rattle.floyd_clight_runs.specs.Safe.{Exit, Normal, Broke, Continued, Returned, KeepsBelow, SafeAll}
 
 -- an activation without local blocks meets an assertion
 pub record Stands (x : Env) (result : CType) (a : Assertion) (act : Act) (h : Heaplet) : Type 0 where

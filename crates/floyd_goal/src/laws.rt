@@ -2,8 +2,8 @@ ghost use Rattle.std.specs.Prelude.{◌≡◌, List};
 ghost use Rattle.floyd_clight.specs.declared.syntax.Stmt.{Stmt};
 ghost use Rattle.floyd_assert.specs.declared.funspec.Funspec.{Funspec};
 ghost use Rattle.floyd_goal.specs.declared.script.Proof.{Proof};
-ghost use Rattle.floyd_runs.specs.Linked.{linked};
-ghost use Rattle.floyd_runs.specs.Sound.{Sound};
+ghost use Rattle.floyd_clight_runs.specs.Linked.{linked};
+ghost use Rattle.floyd_clight_runs.specs.Sound.{Sound};
 ghost use Rattle.floyd_goal.specs.Derivation.{main_start, played};
 
 /// A main is sound where some proof plays through from its start.

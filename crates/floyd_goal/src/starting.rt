@@ -1,5 +1,5 @@
 ghost use Rattle.std.specs.Prelude.{◌≡◌, IfOk};
-ghost use Rattle.floyd_runs.specs.Linked.{main_body as main_body_lem};
+ghost use Rattle.floyd_clight_runs.specs.Linked.{main_body as main_body_lem};
 ghost use Rattle.floyd_goal.specs.Derivation.{main_start, start_source as start_source_lem, nowhere as nowhere_lem};
 
 use crate::goal::{Context, Exits, Goal, Return, Run};

@@ -3,14 +3,14 @@ use Rattle.std.proofs.Common.{◌≡◌, ℕ, ◌≤◌, true, ◌&&◌, List, O
 use Rattle.std.specs.Prelude.{option_and_then, is_some, nat_le, if◌then◌else◌}
 use Rattle.std.specs.Option.{option_or}
 use Rattle.std.proofs.lemmas.Bool.Decides.{nat_tests}
-use Rattle.floyd_sorts.specs.declared.sorts.Sort.{Sort}
+use Rattle.floyd_tree_sorts.specs.declared.sorts.Sort.{Sort}
 use Rattle.floyd_tree.specs.declared.stop.MakeStop.TheVariants.{IllSorted, TooLarge}
 use Rattle.floyd_tree.specs.declared.stop.MakeStop.{MakeStop}
 use Rattle.floyd_tree.specs.declared.term.TermNode.{TermNode}
 use Rattle.floyd_tree.specs.Stored.{IsStored, plain}
 use Rattle.floyd_tree.specs.Made.{fits, fault, faults, fault_at}
 use Rattle.floyd_tree.specs.Plain.{Plain, Plains, At, Done, More, plains, size, sizes, height, heights}
-use Rattle.floyd_sorts.specs.Table.{sort_at}
+use Rattle.floyd_tree_sorts.specs.Table.{sort_at}
 use Rattle.floyd_tree.specs.WellSorted.{sort_of, sorts_of, with_first}
 
 some_when : {A B : Type 0} (f : A → Option B) (o : Option A) (b : B) → option_and_then f o ≡ Some b → (a : A) × (o ≡ Some a)

@@ -3,9 +3,9 @@ use Rattle.std.proofs.Common.{◌≡◌, ℕ, zero, suc, ◌+◌, ◌<◌, ◌�
 use Rattle.std.specs.Prelude.{if◌then◌else◌}
 use Rattle.std.specs.Option.{option_or}
 use Rattle.floyd_tree.specs.declared.formulas.FormulaNode.{FormulaNode}
-use Rattle.floyd_sorts.specs.declared.sorts.Sort.{Sort}
+use Rattle.floyd_tree_sorts.specs.declared.sorts.Sort.{Sort}
 use Rattle.floyd_tree.specs.declared.stop.MakeStop.TheVariants.{IllSorted, TooLarge}
-use Rattle.floyd_sorts.specs.declared.connectives.FormulaHead.{FormulaHead}
+use Rattle.floyd_tree_sorts.specs.declared.connectives.FormulaHead.{FormulaHead}
 use Rattle.floyd_tree.specs.FormulaCode.{formulas-listed, listed-formulas}
 use Rattle.floyd_tree.specs.FormulaStored.{IsFormulaStored, plain_formula}
 use Rattle.floyd_tree.specs.Formulas.{PlainFormula, PlainFormulas, Says, NoFormula, MoreFormulas, all_well_sorted, formulas, formulas_of, formula_height, formula_heights, formula_size, formula_sizes, listed_formulas, takes_all, well_sorted}

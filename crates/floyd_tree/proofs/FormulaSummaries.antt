@@ -5,10 +5,10 @@ use Rattle.std.specs.Int.{bit_at}
 use Rattle.floyd_tree.specs.Code.{plains-listed}
 use Rattle.floyd_tree.specs.FormulaCode.{formulas-listed}
 use Rattle.floyd_tree.specs.FormulaPrints.{formula_summary, formula_summaries_from}
-use Rattle.floyd_sorts.specs.Heads.{binds}
+use Rattle.floyd_tree_sorts.specs.Heads.{binds}
 use Rattle.floyd_tree.specs.Formulas.{PlainFormula, PlainFormulas, Says, NoFormula, MoreFormulas, form_of, formula_mentions, formulas, formulas_mention, formulas_of, terms_of}
 use Rattle.floyd_tree.specs.Plain.{mentions_in, plains}
-use Rattle.floyd_sorts.specs.Prints.{slot}
+use Rattle.floyd_tree_sorts.specs.Prints.{slot}
 use Rattle.floyd_tree.specs.Prints.{summaries_from}
 use Rattle.floyd_tree.proofs.Summaries.{covers_in, either, no_bit, or_left, or_right}
 

@@ -3,12 +3,12 @@ use Rattle.std.proofs.Common.{◌≡◌, ℕ, ◌+◌, Bool, true, false, ◌||�
 use Rattle.std.specs.Prelude.{if◌then◌else◌}
 use Rattle.std.specs.Option.{option_or}
 use Rattle.floyd_tree.specs.Code.{plains-listed}
-use Rattle.floyd_sorts.specs.declared.heads.Head.{Head}
+use Rattle.floyd_tree_sorts.specs.declared.heads.Head.{Head}
 use Rattle.floyd_tree.specs.declared.stop.MakeStop.{MakeStop}
 use Rattle.floyd_tree.specs.declared.stop.MakeStop.TheVariants.{IllSorted, TooLarge, Memory}
 use Rattle.floyd_tree.specs.Made.{Gives, IsFault, fault, faults, fault_at, unless}
 use Rattle.floyd_tree.proofs.Summaries.{mentions_parts}
-use Rattle.floyd_sorts.specs.Heads.{is_variable}
+use Rattle.floyd_tree_sorts.specs.Heads.{is_variable}
 use Rattle.floyd_tree.specs.Plain.{Plain, Plains, At, Done, More, plains, head_of, kids_of, mentions, mentions_in}
 use Rattle.floyd_tree.specs.Replace.{above, above_in, one_if, substituted, substituted_in}
 

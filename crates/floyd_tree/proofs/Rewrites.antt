@@ -3,7 +3,7 @@ use Rattle.std.proofs.Common.{◌≡◌, ℕ, zero, suc, ◌<◌, ◌≤◌, Lis
 use Rattle.std.proofs.lemmas.List.{take_all}
 use Rattle.std.specs.Prelude.{option_map}
 use Rattle.std.specs.Option.{option_or}
-use Rattle.floyd_sorts.specs.declared.heads.Head.{Head}
+use Rattle.floyd_tree_sorts.specs.declared.heads.Head.{Head}
 use Rattle.floyd_tree.specs.declared.stop.MakeStop.{MakeStop}
 use Rattle.floyd_tree.specs.declared.stop.MakeStop as m
 use Rattle.floyd_tree.specs.declared.stop.RewriteStop.{RewriteStop}

@@ -4,13 +4,13 @@ use Rattle.std.specs.Prelude.{bytes_eq, bit_and, bit_or}
 use Rattle.std.specs.Int.{bit_at}
 use Rattle.std.proofs.lemmas.Nat.Bits.{bit_at_or, bit_at-lt, bit_at-pow_same, and_pow}
 use Rattle.std.proofs.lemmas.Slice.Eq.{bytes_eq-Decides}
-use Rattle.floyd_sorts.specs.declared.heads.Head.{Head}
-use Rattle.floyd_sorts.specs.declared.heads.Head.TheVariants.{Variable}
-use Rattle.floyd_sorts.specs.Heads.{is_variable}
+use Rattle.floyd_tree_sorts.specs.declared.heads.Head.{Head}
+use Rattle.floyd_tree_sorts.specs.declared.heads.Head.TheVariants.{Variable}
+use Rattle.floyd_tree_sorts.specs.Heads.{is_variable}
 use Rattle.floyd_tree.specs.Plain.{Plain, Plains, At, Done, More, plains, head_of, kids_of, mentions, mentions_in}
 use Rattle.floyd_tree.specs.Code.{plains-listed}
 use Rattle.std.proofs.Math.Pow.{pow_pos}
-use Rattle.floyd_sorts.specs.Prints.{slot, head_summary}
+use Rattle.floyd_tree_sorts.specs.Prints.{slot, head_summary}
 use Rattle.floyd_tree.specs.Prints.{summary, summaries_from}
 
 pub same_name : (x y : List ℕ) → bytes_eq x y ≡ true → x ≡ y

@@ -1,12 +1,12 @@
 -- The sorts of the kids of a term, and the rows of the sort table.
 use Rattle.std.proofs.Common.{◌≡◌, ℕ, List, [], ◌∷◌, ◌++◌, Option, Some, None, refl, ap, sym, ◌∙◌, ◌≤◌, length, arith}
 use Rattle.std.specs.Prelude.{option_and_then}
-use Rattle.floyd_sorts.specs.declared.heads.Head.{Head}
-use Rattle.floyd_sorts.specs.declared.heads.Head.TheVariants.{Default, Fun}
-use Rattle.floyd_sorts.specs.declared.shape.Shape.{Shape}
-use Rattle.floyd_sorts.specs.declared.sorts.Sort.{Sort}
+use Rattle.floyd_tree_sorts.specs.declared.heads.Head.{Head}
+use Rattle.floyd_tree_sorts.specs.declared.heads.Head.TheVariants.{Default, Fun}
+use Rattle.floyd_tree_sorts.specs.declared.shape.Shape.{Shape}
+use Rattle.floyd_tree_sorts.specs.declared.sorts.Sort.{Sort}
 use Rattle.floyd_tree.specs.Plain.{Plain, plains}
-use Rattle.floyd_sorts.specs.Table.{row_sort, sort_at}
+use Rattle.floyd_tree_sorts.specs.Table.{row_sort, sort_at}
 use Rattle.floyd_tree.specs.WellSorted.{sort_of, sorts_of, with_first}
 
 with_first_push : (a s : Sort) (first : Option Sort) (more : Option (List Sort)) (ss : List Sort) → first ≡ Some a → more ≡ Some ss → with_first first more ≡ Some (a ∷ ss)

@@ -4,8 +4,8 @@ use Rattle.std.specs.Coded.{Coded, code_by, coded×, coded_ℕ, coded_list}
 use Rattle.std.proofs.Common.{sym, ◌∙◌, ap}
 use Rattle.std.proofs.Math.Seq.{take-append_seam, drop-append_seam}
 use Rattle.std.proofs.lemmas.List.{append-nil, append_assoc}
-use Rattle.floyd_sorts.specs.declared.heads.Head.{Head}
-use Rattle.floyd_sorts.specs.declared.heads.Head.TheVariants.{Vundef}
+use Rattle.floyd_tree_sorts.specs.declared.heads.Head.{Head}
+use Rattle.floyd_tree_sorts.specs.declared.heads.Head.TheVariants.{Vundef}
 use Rattle.floyd_tree.specs.Plain.{Plain, Plains, At, Done, More, plains, listed}
 
 pub plains-listed : (kids : Plains) → plains (listed kids) ≡ kids

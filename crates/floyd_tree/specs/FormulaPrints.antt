@@ -1,6 +1,6 @@
 -- Fingerprints of formulas, and the summary of their variables.
 use Rattle.std.specs.Prelude.{ℕ, bit_or}
-use Rattle.floyd_sorts.specs.Prints.{blend, form_print}
+use Rattle.floyd_tree_sorts.specs.Prints.{blend, form_print}
 use Rattle.floyd_tree.specs.Formulas.{PlainFormula, PlainFormulas, Says, NoFormula, MoreFormulas}
 use Rattle.floyd_tree.specs.Prints.{prints_from, summaries_from}
 

@@ -1,9 +1,9 @@
 -- Formulas as plain trees over terms, their size and height, the variables that are free in them, and whether they are well sorted.
 use Rattle.std.specs.Prelude.{ℕ, ◌+◌, max, Bool, true, false, not, ◌||◌, ◌&&◌, List, [], ◌∷◌, length, Option, Some, None}
-use Rattle.floyd_sorts.specs.declared.connectives.FormulaHead.{FormulaHead}
-use Rattle.floyd_sorts.specs.declared.sorts.Sort.{Sort}
-use Rattle.floyd_sorts.specs.Heads.{binds}
-use Rattle.floyd_sorts.specs.Rows.{takes}
+use Rattle.floyd_tree_sorts.specs.declared.connectives.FormulaHead.{FormulaHead}
+use Rattle.floyd_tree_sorts.specs.declared.sorts.Sort.{Sort}
+use Rattle.floyd_tree_sorts.specs.Heads.{binds}
+use Rattle.floyd_tree_sorts.specs.Rows.{takes}
 use Rattle.floyd_tree.specs.Plain.{Plain, Plains, listed, mentions_in, sizes, heights}
 use Rattle.floyd_tree.specs.WellSorted.{sorts_of}
 

@@ -13,7 +13,7 @@ pub mod Replace
 pub mod Stored
 pub mod Types
 pub mod WellSorted
-pub use Rattle.floyd_sorts.specs.Heads
-pub use Rattle.floyd_sorts.specs.Rows
-pub use Rattle.floyd_sorts.specs.Sorts
-pub use Rattle.floyd_sorts.specs.Table
+pub use Rattle.floyd_tree_sorts.specs.Heads
+pub use Rattle.floyd_tree_sorts.specs.Rows
+pub use Rattle.floyd_tree_sorts.specs.Sorts
+pub use Rattle.floyd_tree_sorts.specs.Table

@@ -1,7 +1,7 @@
 -- What may be made: a node that is well sorted and within the limits.
 use Rattle.std.specs.Prelude.{◌≡◌, ℕ, ◌+◌, Option, Some, None, Bool, ◌&&◌, nat_le, if◌then◌else◌, is_some, Result, Ok, Err, List}
 use Rattle.std.specs.Option.{option_or}
-use Rattle.floyd_sorts.specs.declared.heads.Head.{Head}
+use Rattle.floyd_tree_sorts.specs.declared.heads.Head.{Head}
 use Rattle.floyd_tree.specs.declared.stop.MakeStop.{MakeStop}
 use Rattle.floyd_tree.specs.declared.stop.MakeStop.TheVariants.{IllSorted, TooLarge, Memory}
 use Rattle.floyd_tree.specs.Plain.{Plain, Plains, At, Done, More, plains, size, sizes, height, heights}

@@ -1,7 +1,7 @@
 -- What may be made of formulas: a node that is well sorted and within the limits.
 use Rattle.std.specs.Prelude.{ℕ, ◌+◌, max, Option, Some, None, Bool, ◌&&◌, nat_le, if◌then◌else◌, Result, List}
 use Rattle.std.specs.Option.{option_or}
-use Rattle.floyd_sorts.specs.declared.connectives.FormulaHead.{FormulaHead}
+use Rattle.floyd_tree_sorts.specs.declared.connectives.FormulaHead.{FormulaHead}
 use Rattle.floyd_tree.specs.declared.stop.MakeStop.{MakeStop}
 use Rattle.floyd_tree.specs.declared.stop.MakeStop.TheVariants.{IllSorted, TooLarge}
 use Rattle.floyd_tree.specs.Formulas.{PlainFormula, PlainFormulas, Says, NoFormula, MoreFormulas, formulas, formula_size, formula_sizes, formula_height, formula_heights, well_sorted}

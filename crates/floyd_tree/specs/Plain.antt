@@ -1,7 +1,7 @@
 -- Terms as plain trees, their size and height, and the variables that occur in them.
 use Rattle.std.specs.Prelude.{ℕ, ◌+◌, max, Bool, false, ◌||◌, List, [], ◌∷◌}
-use Rattle.floyd_sorts.specs.declared.heads.Head.{Head}
-use Rattle.floyd_sorts.specs.Heads.{is_variable}
+use Rattle.floyd_tree_sorts.specs.declared.heads.Head.{Head}
+use Rattle.floyd_tree_sorts.specs.Heads.{is_variable}
 
 mutual
   pub data Plain : Type 0 where

@@ -1,6 +1,6 @@
 -- Fingerprints, and the summary of the variables of a term. Equal trees have equal ones; no more is claimed of them.
 use Rattle.std.specs.Prelude.{ℕ, bit_or}
-use Rattle.floyd_sorts.specs.Prints.{blend, head_print, head_summary}
+use Rattle.floyd_tree_sorts.specs.Prints.{blend, head_print, head_summary}
 use Rattle.floyd_tree.specs.Plain.{Plain, Plains, At, Done, More}
 
 abbrev mutual

@@ -4,7 +4,7 @@ use Rattle.floyd_tree.specs.declared.stop.MakeStop.{MakeStop}
 use Rattle.floyd_tree.specs.declared.stop.RewriteStop.{RewriteStop}
 use Rattle.floyd_tree.specs.declared.stop.MakeStop as m
 use Rattle.floyd_tree.specs.declared.stop.RewriteStop.TheVariants.{IllSorted, TooLarge, PathAbsent, Memory}
-use Rattle.floyd_sorts.specs.Heads.{is_variable}
+use Rattle.floyd_tree_sorts.specs.Heads.{is_variable}
 use Rattle.floyd_tree.specs.Plain.{Plain, Plains, At, Done, More, plains, mentions_in}
 use Rattle.floyd_tree.specs.Made.{IsFault, fault, faults, unless}
 

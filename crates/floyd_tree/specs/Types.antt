@@ -1,7 +1,7 @@
 -- Types of C whose array sizes are terms.
 use Rattle.std.specs.Prelude.{List, refl}
 use Rattle.std.specs.Coded.{Coded, code_by, coded×, coded_list}
-use Rattle.floyd_sorts.specs.declared.shape.Shape.{Shape}
+use Rattle.floyd_tree_sorts.specs.declared.shape.Shape.{Shape}
 use Rattle.floyd_tree.specs.Plain.{Plain}
 
 pub record SizedType : Type 0 where

@@ -1,7 +1,7 @@
 -- The sort of a term, where it is well sorted.
 use Rattle.std.specs.Prelude.{Option, Some, None, option_and_then, List, [], ◌∷◌}
-use Rattle.floyd_sorts.specs.declared.sorts.Sort.{Sort}
-use Rattle.floyd_sorts.specs.Table.{sort_at}
+use Rattle.floyd_tree_sorts.specs.declared.sorts.Sort.{Sort}
+use Rattle.floyd_tree_sorts.specs.Table.{sort_at}
 use Rattle.floyd_tree.specs.Plain.{Plain, Plains, At, Done, More}
 
 abbrev pub with_first : Option Sort → Option (List Sort) → Option (List Sort)

@@ -1,9 +1,9 @@
 ghost use Rattle.std.specs.Prelude.{◌≡◌, IfOk, length};
-ghost use Rattle.floyd_sorts.specs.Table.{arrays};
+ghost use Rattle.floyd_tree_sorts.specs.Table.{arrays};
 
 use crate::term::{TermList, copies};
-use floyd_sorts::Shape;
 use floyd_text::Shared;
+use floyd_tree_sorts::Shape;
 use sqlite_items::Items;
 use std::alloc::{AllocError, Global};
 use std::marker::Model;
@@ -19,15 +19,15 @@ pub struct AType {
 impl Model for AType {
     ghost use Rattle.floyd_tree.specs.Types.{SizedType, type_code};
     ghost use Rattle.floyd_tree.specs.Code.{plain_code};
-    ghost use Rattle.floyd_sorts.specs.contracts.heads.Head as h;
-    ghost use Rattle.floyd_sorts.specs.contracts.shape.Shape as s;
+    ghost use Rattle.floyd_tree_sorts.specs.contracts.heads.Head as h;
+    ghost use Rattle.floyd_tree_sorts.specs.contracts.shape.Shape as s;
 
     ghost Value = { SizedType };
 
     ghost coded = { type_code s.the_row.coded (plain_code h.the_row.coded) };
 
     ghost use Rattle.std.specs.Prelude.{◌≡◌, length};
-    ghost use Rattle.floyd_sorts.specs.Table.{arrays};
+    ghost use Rattle.floyd_tree_sorts.specs.Table.{arrays};
 
     ghost view = { λ a. record { shape = a.shape; sizes = a.sizes } };
 

@@ -10,8 +10,8 @@ use crate::stop::MakeStop;
 use crate::term::{
     MAX_HEIGHT, MAX_SIZE, Term, TermList, bounds, copies, prints_onto, sorts, summaries_onto,
 };
-use floyd_sorts::{FormulaHead, blend, takes};
 use floyd_text::Steps;
+use floyd_tree_sorts::{FormulaHead, blend, takes};
 use sqlite_items::Items;
 use std::alloc::{AllocError, Global};
 use std::marker::Model;
@@ -44,8 +44,8 @@ impl Model for Formula {
     ghost use Rattle.floyd_tree.specs.Formulas.{PlainFormula, formula_height};
     ghost use Rattle.floyd_tree.specs.Code.{plain_code};
     ghost use Rattle.floyd_tree.specs.FormulaCode.{formula_code};
-    ghost use Rattle.floyd_sorts.specs.contracts.connectives.FormulaHead as h;
-    ghost use Rattle.floyd_sorts.specs.contracts.heads.Head as t;
+    ghost use Rattle.floyd_tree_sorts.specs.contracts.connectives.FormulaHead as h;
+    ghost use Rattle.floyd_tree_sorts.specs.contracts.heads.Head as t;
 
     ghost Value = { PlainFormula };
 

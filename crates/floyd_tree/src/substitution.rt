@@ -1,13 +1,13 @@
 ghost use Rattle.std.specs.Prelude.{◌≡◌, ◌+◌, ◌^◌, ◌≤◌, ◌++◌, ◌∷◌, [], None, IfOk, IfErr, OnOk};
 ghost use Rattle.floyd_tree.specs.Made.{Gives, IsFault, built, fault, faults};
 ghost use Rattle.floyd_tree.specs.Plain.{mentions, mentions_in, plains};
-ghost use Rattle.floyd_sorts.specs.Prints.{slot};
+ghost use Rattle.floyd_tree_sorts.specs.Prints.{slot};
 ghost use Rattle.floyd_tree.specs.Replace.{Changes, ChangesAll, above, above_in, substituted, substituted_in};
 
 use crate::stop::MakeStop;
 use crate::term::{Term, TermList, assemble, head, kids};
-use floyd_sorts::slot;
 use floyd_text::{Name, Steps};
+use floyd_tree_sorts::slot;
 use sqlite_items::Items;
 use std::alloc::Global;
 use std::sync::ledger::Ledger;

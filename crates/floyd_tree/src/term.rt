@@ -2,12 +2,14 @@ ghost use Rattle.std.specs.Prelude.{◌≡◌, ◌+◌, ◌≤◌, min, Some, No
 ghost use Rattle.floyd_tree.specs.Made.{Gives, fault, faults, made, measures_of};
 ghost use Rattle.floyd_tree.specs.Plain.{At, head_of, kids_of, plains, size, sizes, height, heights};
 ghost use Rattle.floyd_tree.specs.Prints.{print, prints_from, summary, summaries_from};
-ghost use Rattle.floyd_sorts.specs.Table.{row_sort};
+ghost use Rattle.floyd_tree_sorts.specs.Table.{row_sort};
 ghost use Rattle.floyd_tree.specs.WellSorted.{sort_of, sorts_of};
 
 use crate::stop::MakeStop;
-use floyd_sorts::{Head, Sort, all_z, blend, has_arrays, sort0, sort1, sort2, sort3, sorts_match};
 use floyd_text::Steps;
+use floyd_tree_sorts::{
+    Head, Sort, all_z, blend, has_arrays, sort0, sort1, sort2, sort3, sorts_match,
+};
 use sqlite_items::Items;
 use std::alloc::{AllocError, Global};
 use std::marker::Model;
@@ -45,7 +47,7 @@ struct TermNode {
 impl Model for Term {
     ghost use Rattle.floyd_tree.specs.Plain.{Plain, height};
     ghost use Rattle.floyd_tree.specs.Code.{plain_code};
-    ghost use Rattle.floyd_sorts.specs.contracts.heads.Head as h;
+    ghost use Rattle.floyd_tree_sorts.specs.contracts.heads.Head as h;
 
     ghost Value = { Plain };
 

@@ -1,12 +1,12 @@
 ghost use Rattle.std.specs.Prelude.{◌≡◌, ◌^◌};
 ghost use Rattle.floyd_tree.specs.Formulas.{formula_mentions, formulas, formulas_mention};
 ghost use Rattle.floyd_tree.specs.Plain.{mentions, mentions_in, plains};
-ghost use Rattle.floyd_sorts.specs.Prints.{slot};
+ghost use Rattle.floyd_tree_sorts.specs.Prints.{slot};
 
 use crate::formulas::{Formula, formula_head, formula_kids, formula_terms};
 use crate::term::{Term, head, kids};
-use floyd_sorts::slot;
 use floyd_text::Name;
+use floyd_tree_sorts::slot;
 
 /// Whether the variable occurs.
 pub fn mentions(t: &Term, x: &Name) -> bool

@@ -1,6 +1,6 @@
-use floyd_addresses::{Flags, addresses, block_addresses};
 use floyd_cparse::parse;
-use floyd_csyntax::{BlockItem, CUnit, External};
+use floyd_cparse_trees::{BlockItem, CUnit, External};
+use floyd_elab_addresses::{Flags, addresses, block_addresses};
 use floyd_lex::{FileKind, tokens};
 use std::alloc::{AllocError, Global};
 use std::test::Fail;

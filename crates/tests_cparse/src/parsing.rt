@@ -1,7 +1,7 @@
 use crate::pages::{BEGINNINGS, PAGES};
 use crate::rows::{DEPTH, EXPRESSIONS, SOURCES, STATEMENTS, TYPES};
 use floyd_cparse::parse;
-use floyd_csyntax::{BlockItem, CExpr, CStatement, CUnit, External};
+use floyd_cparse_trees::{BlockItem, CExpr, CStatement, CUnit, External};
 use floyd_lex::{FileKind, Tokens, tokens};
 use floyd_text::{Halt, Refusal, Shown, place_of};
 use std::alloc::{AllocError, Global};

@@ -3,7 +3,7 @@ use crate::printing::{print_body, print_name};
 use crate::units::{print_defined, print_places, print_unit};
 use floyd_clight::{ClightUnit, Defined};
 use floyd_cparse::parse;
-use floyd_csyntax::CUnit;
+use floyd_cparse_trees::CUnit;
 use floyd_elab::elaborate;
 use floyd_lex::{FileKind, tokens};
 use floyd_text::{Halt, Refusal, Shown, place_of};

@@ -1,10 +1,10 @@
 //! Expressions and their types among some names.
 use crate::printing::print_type;
 use crate::running::{Frame, View, print_refusal, read, source_of};
-use floyd_csyntax::{BlockItem, CExpr, CStatement, CUnit, External};
+use floyd_cparse_trees::{BlockItem, CExpr, CStatement, CUnit, External};
 use floyd_ctypes::CType;
 use floyd_ctyping::{Env, type_of};
-use floyd_declarators::{Meaning, Storage};
+use floyd_elab_names::{Meaning, Storage};
 use floyd_int::IntKind;
 use floyd_text::{Halt, Name, Shared};
 use std::alloc::{AllocError, Global};

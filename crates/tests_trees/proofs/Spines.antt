@@ -1,8 +1,8 @@
 -- The positions above the leftmost leaf.
 use Rattle.std.proofs.Common.{◌≡◌, ℕ, zero, suc, ◌+◌, ◌≤◌, Bool, true, false, ◌||◌, List, refl, ap, ◌∙◌, arith}
-use Rattle.floyd_sorts.specs.declared.heads.Head.TheVariants.{Variable}
-use Rattle.floyd_sorts.specs.declared.sorts.Sort.{Z}
-use Rattle.floyd_sorts.specs.Heads.{is_variable}
+use Rattle.floyd_tree_sorts.specs.declared.heads.Head.TheVariants.{Variable}
+use Rattle.floyd_tree_sorts.specs.declared.sorts.Sort.{Z}
+use Rattle.floyd_tree_sorts.specs.Heads.{is_variable}
 use Rattle.floyd_tree.specs.Plain.{Plain, Plains, At, Done, More, mentions, mentions_in}
 use Rattle.floyd_tree.specs.Replace.{above, above_in, one_if}
 use Rattle.tests_trees.specs.Full.{full, spine}

@@ -1,6 +1,6 @@
 -- Complete trees of sums.
 use Rattle.std.specs.Prelude.{ℕ, zero, suc}
-use Rattle.floyd_sorts.specs.declared.heads.Head.TheVariants.{Add}
+use Rattle.floyd_tree_sorts.specs.declared.heads.Head.TheVariants.{Add}
 use Rattle.floyd_tree.specs.Plain.{Plain, At, Done, More}
 
 -- n levels of sums over leaves that are all alike

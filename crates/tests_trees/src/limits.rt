@@ -1,7 +1,7 @@
 //! The limits of terms, and replacement and substitution in the complete tree of sums with twelve levels.
 ghost use Rattle.std.specs.Prelude.{◌≡◌, ◌+◌, ◌<◌, ◌≤◌, false, pos, IfOk};
-ghost use Rattle.floyd_sorts.specs.declared.heads.Head.TheVariants.{Add, Literal, Variable};
-ghost use Rattle.floyd_sorts.specs.declared.sorts.Sort.{Z};
+ghost use Rattle.floyd_tree_sorts.specs.declared.heads.Head.TheVariants.{Add, Literal, Variable};
+ghost use Rattle.floyd_tree_sorts.specs.declared.sorts.Sort.{Z};
 ghost use Rattle.floyd_tree.specs.Plain.{At, Done, More, mentions};
 ghost use Rattle.tests_trees.specs.Full.{full, spine};
 

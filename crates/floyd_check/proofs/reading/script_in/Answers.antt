@@ -2,7 +2,7 @@ use Rattle.std.proofs.Common.{Err, sym, subst}
 use Rattle.std.proofs.lemmas.Result.{err_from_is_err_and}
 use Rattle.floyd_lex.specs.declared.kinds.FileKind.TheVariants as kind
 use Rattle.floyd_text.specs.declared.refusal.Refusal.{Refusal}
-use Rattle.floyd_first.specs.Forms.{IsScript}
+use Rattle.floyd_check_stub.specs.Forms.{IsScript}
 use Rattle.floyd_check.specs.FileReading.{ReadsFile}
 use Rattle.floyd_check.proofs.Readings.{not_cut, reads_some, reads_none}
 use Rattle.floyd_check.proofs.reading.script_in.Goals as goal

@@ -1,7 +1,7 @@
 use Rattle.std.proofs.Common.{◌≡◌, ℕ, List, ◌∷◌, map, Ok, Err, sym, ◌∙◌, ap, subst}
 use Rattle.std.specs.List.{flat_map}
 use Rattle.floyd_text.specs.Gives.{Stops}
-use Rattle.floyd_project.specs.declared.module.FileName.{FileName}
+use Rattle.floyd_check_project.specs.declared.module.FileName.{FileName}
 use Rattle.floyd_check.specs.Loading.{files_of, modules_of}
 use Rattle.floyd_cli.specs.declared.load.LoadStop.{LoadStop}
 use Rattle.floyd_cli.specs.Loads.{AreNamed, HasFiles, HasProject, HasNames, Loads, ReadsFiles}

@@ -1,5 +1,5 @@
 use Rattle.std.proofs.Common.{◌≡◌, ◌∷◌, ◌++◌, drop, map}
-use Rattle.floyd_project.specs.declared.module.FileName.{FileName}
+use Rattle.floyd_check_project.specs.declared.module.FileName.{FileName}
 use Rattle.floyd_cli.proofs.load.names_of.Given as goal
 
 -- the names so far, and those of the files that are left

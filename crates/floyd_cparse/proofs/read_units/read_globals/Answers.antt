@@ -1,5 +1,5 @@
 use Rattle.std.proofs.Common.{sym, ◌∙◌}
-use Rattle.floyd_ctokens.proofs.ReadLemmas.{gives_next}
+use Rattle.floyd_cparse_tokens.proofs.ReadLemmas.{gives_next}
 use Rattle.floyd_cparse.proofs.UnitShrinks.{next_global_eats}
 use Rattle.floyd_cparse.proofs.read_units.read_globals.Goals as goal
 

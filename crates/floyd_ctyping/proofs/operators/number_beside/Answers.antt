@@ -1,6 +1,6 @@
 use Rattle.std.proofs.Common.{◌≡◌, ap, sym, ◌∙◌, subst, IfOk, Option}
 use Rattle.floyd_ctypes.specs.declared.ctype.CType.{CType}
-use Rattle.floyd_declarators.specs.Types.{pointer_to as pointer_to_lem}
+use Rattle.floyd_elab_names.specs.Types.{pointer_to as pointer_to_lem}
 use Rattle.floyd_ctyping.specs.Operators.{when, number_beside as number_beside_lem}
 use Rattle.floyd_ctyping.proofs.OperatorLemmas.{number_beside_of_pointer}
 use Rattle.floyd_ctyping.proofs.operators.number_beside.Goals as goal

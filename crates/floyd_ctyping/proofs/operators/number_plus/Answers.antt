@@ -1,6 +1,6 @@
 use Rattle.std.proofs.Common.{◌≡◌, ap, sym, ◌∙◌, subst, IfOk, Option}
 use Rattle.floyd_ctypes.specs.declared.ctype.CType.{CType}
-use Rattle.floyd_declarators.specs.Types.{has_size as has_size_lem, pointer_to as pointer_to_lem}
+use Rattle.floyd_elab_names.specs.Types.{has_size as has_size_lem, pointer_to as pointer_to_lem}
 use Rattle.floyd_ctyping.specs.Operators.{when, number_plus as number_plus_lem}
 use Rattle.floyd_ctyping.proofs.OperatorLemmas.{number_plus_of_pointer}
 use Rattle.floyd_ctyping.proofs.operators.number_plus.Goals as goal

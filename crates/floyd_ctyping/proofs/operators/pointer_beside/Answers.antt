@@ -1,6 +1,6 @@
 use Rattle.std.proofs.Common.{◌≡◌, ap, sym, ◌∙◌, subst, IfOk, Option}
 use Rattle.floyd_ctypes.specs.declared.ctype.CType.{CType}
-use Rattle.floyd_declarators.specs.Types.{same_type as same_type_lem, pointer_to as pointer_to_lem}
+use Rattle.floyd_elab_names.specs.Types.{same_type as same_type_lem, pointer_to as pointer_to_lem}
 use Rattle.floyd_ctyping.specs.Operators.{when, pointer_beside as pointer_beside_lem}
 use Rattle.floyd_ctyping.proofs.OperatorLemmas.{pointer_beside_of_pointer}
 use Rattle.floyd_ctyping.proofs.operators.pointer_beside.Goals as goal

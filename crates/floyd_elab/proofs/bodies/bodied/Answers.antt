@@ -1,4 +1,4 @@
-use Rattle.floyd_csyntax.specs.declared.statements.CStatement.{Block}
+use Rattle.floyd_cparse_trees.specs.declared.statements.CStatement.{Block}
 use Rattle.floyd_elab.proofs.BodyLemmas.{bodied_stops, bodied_gives}
 use Rattle.floyd_elab.proofs.FollowLemmas.{stopped_with}
 use Rattle.floyd_elab.proofs.bodies.bodied.Goals as goal

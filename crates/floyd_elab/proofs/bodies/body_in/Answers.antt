@@ -1,5 +1,5 @@
 use Rattle.std.proofs.Common.{sym, ◌∙◌}
-use Rattle.floyd_csyntax.specs.declared.statements.CStatement.{Block}
+use Rattle.floyd_cparse_trees.specs.declared.statements.CStatement.{Block}
 use Rattle.floyd_elab.proofs.BodyLemmas.{one_again, scope_again, body_is, body_stops}
 use Rattle.floyd_elab.proofs.FollowLemmas.{stopped_by}
 use Rattle.floyd_elab.proofs.bodies.body_in.Goals as goal

@@ -1,8 +1,8 @@
 use Rattle.std.proofs.Common.{◌≡◌, ◌∷◌, Ok, subst}
 use Rattle.floyd_text.specs.Gives.{Stops}
-use Rattle.floyd_csyntax.specs.declared.statements.CStatement.{Block}
-use Rattle.floyd_statements.specs.Statements.{body as body_lem}
-use Rattle.floyd_translation.specs.declared.progress.Progress.{Progress}
+use Rattle.floyd_cparse_trees.specs.declared.statements.CStatement.{Block}
+use Rattle.floyd_elab_statements.specs.Statements.{body as body_lem}
+use Rattle.floyd_elab_expressions.specs.declared.progress.Progress.{Progress}
 use Rattle.floyd_elab.specs.Units.{parameter_scope}
 use Rattle.floyd_elab.proofs.FollowLemmas.{stopped_by}
 use Rattle.floyd_elab.proofs.bodies.body_of.Goals as goal

@@ -1,9 +1,9 @@
 use Rattle.std.proofs.Common.{◌≡◌, List, Ok, subst}
-use Rattle.floyd_csyntax.specs.declared.statements.CStatement.{Block}
+use Rattle.floyd_cparse_trees.specs.declared.statements.CStatement.{Block}
 use Rattle.floyd_clight.specs.declared.syntax.Stmt.{Stmt}
-use Rattle.floyd_declarators.specs.Scopes.{Scopes}
-use Rattle.floyd_translation.specs.Behind.{appended}
-use Rattle.floyd_statements.specs.Statements.{body as body_lem}
+use Rattle.floyd_elab_names.specs.Scopes.{Scopes}
+use Rattle.floyd_elab_expressions.specs.Behind.{appended}
+use Rattle.floyd_elab_statements.specs.Statements.{body as body_lem}
 use Rattle.floyd_elab.proofs.BodyLemmas.{behind_none}
 use Rattle.floyd_elab.proofs.bodies.translated.Goals as goal
 

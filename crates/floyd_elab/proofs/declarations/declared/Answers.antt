@@ -1,4 +1,4 @@
-use Rattle.floyd_declarators.specs.Doing.{◌>>=◌}
+use Rattle.floyd_elab_names.specs.Doing.{◌>>=◌}
 use Rattle.floyd_elab.specs.Units.{type_declared as type_declared_lem}
 use Rattle.floyd_elab.specs.Parts.{unless_constant as unless_constant_lem, declared_as as declared_as_lem}
 use Rattle.floyd_elab.proofs.FollowLemmas.{stopped_with, behind_stops, behind_stops_at, behind_gives}

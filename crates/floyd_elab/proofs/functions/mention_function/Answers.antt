@@ -1,5 +1,5 @@
 use Rattle.std.proofs.Common.{rules, ◌≡◌, sym, ◌∙◌}
-use Rattle.floyd_declarators.specs.declared.meaning.Meaning.TheVariants as m
+use Rattle.floyd_elab_names.specs.declared.meaning.Meaning.TheVariants as m
 use Rattle.floyd_elab.specs.Files.{add_meaning as add_meaning_lem}
 use Rattle.floyd_elab.proofs.DeclareLemmas.{mentioned_before, mentioned_first}
 use Rattle.floyd_elab.proofs.functions.mention_function.Goals as goal

@@ -1,9 +1,9 @@
 use Rattle.std.proofs.Common.{List, subst}
 use Rattle.floyd_ctypes.specs.declared.ctype.CType.{CType}
-use Rattle.floyd_csyntax.specs.declared.statements.BlockItem.{BlockItem}
-use Rattle.floyd_csyntax.specs.declared.statements.CStatement.{Block}
+use Rattle.floyd_cparse_trees.specs.declared.statements.BlockItem.{BlockItem}
+use Rattle.floyd_cparse_trees.specs.declared.statements.CStatement.{Block}
 use Rattle.floyd_clight.specs.declared.unit.Local.{Local}
-use Rattle.floyd_declarators.specs.Doing.{GivesWith}
+use Rattle.floyd_elab_names.specs.Doing.{GivesWith}
 use Rattle.floyd_elab.specs.Units.{parameters_of as parameters_of_lem, bodied as bodied_lem}
 use Rattle.floyd_elab.proofs.headings.function_bodied.Goals as goal
 

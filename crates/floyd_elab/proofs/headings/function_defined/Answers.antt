@@ -1,6 +1,6 @@
 use Rattle.std.proofs.Common.{Result, sym, subst}
 use Rattle.floyd_text.specs.declared.refusal.Refusal.{Refusal}
-use Rattle.floyd_declarators.specs.Doing.{GivesWith}
+use Rattle.floyd_elab_names.specs.Doing.{GivesWith}
 use Rattle.floyd_elab.specs.declared.file.File.{File}
 use Rattle.floyd_elab.proofs.FunctionLemmas.{heading_stops, judge_stops, defined_as}
 use Rattle.floyd_elab.proofs.FollowLemmas.{stopped_with}

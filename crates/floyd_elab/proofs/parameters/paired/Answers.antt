@@ -1,6 +1,6 @@
 use Rattle.std.proofs.Common.{Option, ap, sym, ◌∙◌}
 use Rattle.floyd_ctypes.specs.declared.ctype.CType.{CType}
-use Rattle.floyd_declarators.specs.Declarators.{name_of}
+use Rattle.floyd_elab_names.specs.Declarators.{name_of}
 use Rattle.floyd_elab.specs.Parts.{local_of}
 use Rattle.floyd_elab.proofs.ParameterLemmas.{next_paired, end_paired, all_paired, is_none}
 use Rattle.floyd_elab.proofs.parameters.paired.Goals as goal

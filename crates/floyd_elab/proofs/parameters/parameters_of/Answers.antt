@@ -1,6 +1,6 @@
 use Rattle.std.proofs.Common.{List, ap, ◌∙◌}
 use Rattle.floyd_ctypes.specs.declared.ctype.CType.{CType}
-use Rattle.floyd_csyntax.specs.declared.types.Parameter.{Parameter}
+use Rattle.floyd_cparse_trees.specs.declared.types.Parameter.{Parameter}
 use Rattle.floyd_elab.specs.Units.{paired as paired_lem}
 use Rattle.floyd_elab.specs.Parts.{names_of}
 use Rattle.floyd_elab.proofs.ParameterLemmas.{parameters_of_own}

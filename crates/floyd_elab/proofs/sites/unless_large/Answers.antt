@@ -1,8 +1,8 @@
 use Rattle.std.proofs.Common.{rules, ◌≡◌, Err, ap, sym, ◌∙◌}
 use Rattle.floyd_text.specs.declared.refusal.Refusal.{Refusal}
-use Rattle.floyd_declarators.specs.Refusals.{left_out as left_out_lem}
-use Rattle.floyd_declarators.specs.Declarators.{limit_site as limit_site_lem}
-use Rattle.floyd_statements.specs.Locals.{nowhere as nowhere_lem}
+use Rattle.floyd_elab_names.specs.Refusals.{left_out as left_out_lem}
+use Rattle.floyd_elab_names.specs.Declarators.{limit_site as limit_site_lem}
+use Rattle.floyd_elab_statements.specs.Locals.{nowhere as nowhere_lem}
 use Rattle.floyd_elab.proofs.SiteLemmas.{is_small, is_large}
 use Rattle.floyd_elab.proofs.sites.unless_large.Goals as goal
 

@@ -1,7 +1,7 @@
 use Rattle.std.proofs.Common.{List, subst}
 use Rattle.floyd_ctypes.specs.declared.ctype.CType.{CType}
-use Rattle.floyd_csyntax.specs.declared.types.Declarator.{Declarator}
-use Rattle.floyd_declarators.specs.Doing.{GivesWith}
+use Rattle.floyd_cparse_trees.specs.declared.types.Declarator.{Declarator}
+use Rattle.floyd_elab_names.specs.Doing.{GivesWith}
 use Rattle.floyd_elab.specs.Units.{all_typedefs as all_typedefs_lem}
 use Rattle.floyd_elab.specs.Parts.{base_declared as base_declared_lem}
 use Rattle.floyd_elab.proofs.FollowLemmas.{stopped_with, behind_stops, behind_gives}

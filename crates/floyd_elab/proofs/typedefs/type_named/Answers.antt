@@ -1,6 +1,6 @@
 use Rattle.std.proofs.Common.{rules, ◌≡◌, is_some, Ok, ap, sym, ◌∙◌}
-use Rattle.floyd_declarators.specs.declared.meaning.Meaning.TheVariants as m
-use Rattle.floyd_contents.specs.Constant.{constant_at as constant_at_lem}
+use Rattle.floyd_elab_names.specs.declared.meaning.Meaning.TheVariants as m
+use Rattle.floyd_elab_data.specs.Constant.{constant_at as constant_at_lem}
 use Rattle.floyd_elab.specs.declared.file.File.{File}
 use Rattle.floyd_elab.specs.Files.{top, add_meaning}
 use Rattle.floyd_elab.proofs.DeclareLemmas.{typedef_stops, typedef_is}

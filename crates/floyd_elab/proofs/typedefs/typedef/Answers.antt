@@ -1,6 +1,6 @@
 use Rattle.std.proofs.Common.{subst}
-use Rattle.floyd_csyntax.specs.declared.types.Identifier.{Identifier}
-use Rattle.floyd_declarators.specs.Doing.{GivesWith}
+use Rattle.floyd_cparse_trees.specs.declared.types.Identifier.{Identifier}
+use Rattle.floyd_elab_names.specs.Doing.{GivesWith}
 use Rattle.floyd_elab.specs.Units.{named as named_lem, type_declared as type_declared_lem}
 use Rattle.floyd_elab.specs.Parts.{type_named as type_named_lem}
 use Rattle.floyd_elab.proofs.FollowLemmas.{stopped_with, behind_stops, behind_gives}

@@ -1,6 +1,6 @@
 use Rattle.std.proofs.Common.{Bool, subst}
-use Rattle.floyd_csyntax.specs.declared.types.Identifier.{Identifier}
-use Rattle.floyd_declarators.specs.Doing.{GivesWith}
+use Rattle.floyd_cparse_trees.specs.declared.types.Identifier.{Identifier}
+use Rattle.floyd_elab_names.specs.Doing.{GivesWith}
 use Rattle.floyd_elab.specs.Units.{named as named_lem}
 use Rattle.floyd_elab.specs.Parts.{variable_named as variable_named_lem}
 use Rattle.floyd_elab.proofs.variables.variable.Goals as goal

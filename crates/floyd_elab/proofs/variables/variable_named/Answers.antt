@@ -1,6 +1,6 @@
 use Rattle.std.proofs.Common.{Result, ap, sym, ◌∙◌, subst}
 use Rattle.floyd_text.specs.declared.refusal.Refusal.{Refusal}
-use Rattle.floyd_declarators.specs.Doing.{GivesWith}
+use Rattle.floyd_elab_names.specs.Doing.{GivesWith}
 use Rattle.floyd_elab.specs.declared.file.File.{File}
 use Rattle.floyd_elab.specs.Units.{defined_if}
 use Rattle.floyd_elab.proofs.DeclareLemmas.{variable_stops, variable_is}

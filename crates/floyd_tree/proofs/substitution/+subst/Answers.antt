@@ -1,7 +1,7 @@
 use Rattle.std.proofs.Common.{◌||◌, sym, ◌∙◌, ap, drop, map, subst, arith}
 use Rattle.std.proofs.lemmas.List.{take_all, drop_all}
 use Rattle.floyd_tree.specs.Made.{IsFault, fault_at, faults}
-use Rattle.floyd_sorts.specs.Heads.{is_variable}
+use Rattle.floyd_tree_sorts.specs.Heads.{is_variable}
 use Rattle.floyd_tree.specs.Plain.{At, plains, height, heights, mentions_in}
 use Rattle.floyd_tree.specs.Replace.{substituted, substituted_in}
 use Rattle.floyd_tree.proofs.Heights.{height_at, heights_below}

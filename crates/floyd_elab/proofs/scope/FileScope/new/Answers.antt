@@ -1,5 +1,5 @@
 use Rattle.std.proofs.Common.{ap, ◌∙◌}
-use Rattle.floyd_declarators.specs.Scopes.{Scopes, entered}
+use Rattle.floyd_elab_names.specs.Scopes.{Scopes, entered}
 use Rattle.floyd_elab.proofs.ScopeLemmas.{one_entered}
 use Rattle.floyd_elab.proofs.scope.FileScope.new.Goals as goal
 

@@ -1,7 +1,0 @@
-use Rattle.std.proofs.Common.{ap, sym, ◌∙◌}
-use Rattle.floyd_declarators.specs.Declarators.{is_bare as is_bare_lem}
-use Rattle.floyd_declarators.proofs.DeclaratorLemmas.{bare_in_parentheses}
-use Rattle.floyd_declarators.proofs.declarators.+is_bare.Goals as goal
-
-pub returns-in-Parenthesised : goal.returns-in-Parenthesised
-returns-in-Parenthesised t c = c.is_bare.ensures ∙ ap is_bare_lem c.get.ensures ∙ sym (ap is_bare_lem c.in-Parenthesised.is ∙ bare_in_parentheses c.in-Parenthesised.inner c.in-Parenthesised.place)

@@ -1,6 +1,0 @@
-use Rattle.std.proofs.Common.{◌≡◌, drop}
-use Rattle.floyd_declarators.specs.Lists.{each_within as each_within_lem}
-use Rattle.floyd_declarators.proofs.limits.+arrays.Given as goal
-
-abbrev pub invariant-each_within-types : goal.invariant-each_within-types
-invariant-each_within-types l = each_within_lem l.structs (drop l.t-index l.types) ≡ each_within_lem l.structs l.types

@@ -1,5 +1,0 @@
-use Rattle.floyd_declarators.proofs.SameLemmas.{same_type_test}
-use Rattle.floyd_declarators.proofs.types.same_type.Goals as goal
-
-pub returns : goal.returns
-returns c = same_type_test c.same.result c.args.t.now c.args.u.now c.same.ensures

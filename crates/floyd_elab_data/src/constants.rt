@@ -1,0 +1,232 @@
+//! Contents that one constant gives.
+ghost use Rattle.std.specs.Prelude.{◌≡◌, ◌-◌, ◌^◌, ◌&&◌, ◌||◌, nat_le, pos, IfOk};
+ghost use Rattle.std.specs.Option.{option_copied, unwrap_or};
+ghost use Rattle.floyd_text.specs.Gives.{Gives};
+ghost use Rattle.floyd_text.specs.declared.refusal.Halt.TheVariants.{Refused};
+ghost use Rattle.floyd_cparse_trees.specs.declared.declarations.Constant.TheVariants as written;
+ghost use Rattle.floyd_cparse_trees.specs.declared.declarations.Initialiser.TheVariants as initialiser;
+ghost use Rattle.floyd_int.specs.Kind.{width as width_lem, is_signed as is_signed_lem, value_of as value_of_lem};
+ghost use Rattle.floyd_ctypes.specs.Layout.{size};
+ghost use Rattle.floyd_elab_names.specs.declared.tags.Tags.{Tags as Kept};
+ghost use Rattle.floyd_elab_names.specs.Refusals.{ill_typed as ill_typed_lem};
+ghost use Rattle.floyd_elab_names.specs.Types.{pointer_to as pointer_to_lem, is_function as is_function_lem};
+ghost use Rattle.floyd_ctyping.specs.Operators.{fits_into as fits_into_lem, value_of_type};
+ghost use Rattle.floyd_elab_data.specs.Contents.{signed_bits as signed_bits_lem, literal_contents as literal_contents_lem, element_of as element_of_lem, is_array as is_array_lem, constant as constant_lem, contents as contents_lem};
+
+use floyd_clight::Initial;
+use floyd_cparse_trees::{Constant, Identifier, Literal};
+use floyd_ctypes::{CType, StructTable};
+use floyd_ctyping::{Operand, fits_into, named};
+use floyd_elab_names::{Names, Tags, ill_typed, is_function, is_scalar, pointer_to};
+use floyd_int::{IntKind, repr};
+use floyd_text::{Halt, Place};
+use std::alloc::{AllocError, Global};
+
+/// Ill typed at this place.
+pub(crate) fn misfit(place: Place) -> Halt
+    ensures { result ≡ Refused (ill_typed_lem place) }
+{
+    Halt::Refused(ill_typed(place))
+}
+
+/// How many integers of the kind there are, each with bits of its own.
+fn modulus(kind: IntKind) -> i128
+    ensures { result ≡ pos (2 ^ width_lem kind) }
+{
+    1 << kind.width()
+}
+
+/// Whether the kind reads these bits as a number below 0.
+fn is_negative(kind: IntKind, bits: u64) -> bool
+    ensures { result ≡ (is_signed_lem kind && nat_le (2 ^ (width_lem kind - 1)) bits) }
+{
+    kind.is_signed() && i128::from(bits) > kind.greatest()
+}
+
+/// The value of these bits, of which there may be more than the kind has.
+fn value_of(kind: IntKind, bits: u64) -> i128
+    ensures { result ≡ value_of_lem kind bits }
+{
+    if is_negative(kind, bits) {
+        i128::from(bits) - modulus(kind)
+    } else {
+        i128::from(bits)
+    }
+}
+
+/// The bits of a literal, or of minus it as C computes that.
+fn signed_bits(negative: bool, literal: Literal) -> u64
+    ensures { result ≡ signed_bits_lem negative literal }
+{
+    if negative {
+        repr(literal.kind, -i128::from(literal.value))
+    } else {
+        literal.value
+    }
+}
+
+/// What a literal gives: for a number its value, cast to the number's kind, and for a pointer only the constant 0.
+fn literal_contents(
+    place: Place,
+    t: &CType,
+    negative: bool,
+    literal: Literal,
+) -> Result<Initial, Halt>
+    ensures exact { (tags : Kept) → Gives (λ x. (x, tags)) result (literal_contents_lem place t.now negative literal tags) }
+{
+    match t {
+        CType::Int(kind) => {
+            let value = value_of(literal.kind, signed_bits(negative, literal));
+            Ok(Initial::Int(*kind, repr(*kind, value)))
+        }
+        CType::Pointer(_) if !negative && literal.value == 0 => Ok(Initial::Null),
+        _ => Err(misfit(place)),
+    }
+}
+
+fn is_array(t: &CType) -> bool
+    ensures { result ≡ is_array_lem t.now }
+{
+    matches!(t, CType::Array(_, _))
+}
+
+fn element_of(t: &CType) -> Option<&CType>
+    ensures { option_copied result ≡ element_of_lem t.now }
+{
+    match t {
+        CType::Array(element, _) => Some(element.get()),
+        _ => None,
+    }
+}
+
+/// Whether a name alone may stand for its address, and that fits.
+fn is_name_fit(alloc: Global, t: &CType, a: &Operand) -> Result<bool, AllocError>
+    ensures { IfOk result (λ yes. yes ≡ ((is_array_lem a.now.ctype || is_function_lem a.now.ctype) && fits_into_lem t.now a.now)) }
+{
+    if is_array(&a.ctype) || is_function(&a.ctype) {
+        return fits_into(alloc, t, a);
+    }
+    Ok(false)
+}
+
+/// Whether a pointer to the second type may become a value of the first.
+fn is_pointer_fit(alloc: Global, t: &CType, to: &CType) -> Result<bool, AllocError>
+    ensures { IfOk result (λ yes. yes ≡ fits_into_lem t.now (value_of_type (pointer_to_lem to.now))) }
+{
+    let pointer = pointer_to(alloc, to.share(alloc)?)?;
+    fits_into(alloc, t, &Operand::value(pointer))
+}
+
+/// The size of a type in bytes, which is 0 where it has none. A type with an array that is larger than an object may be
+/// is no declared variable's, and its size may pass every integer: then this answers as if memory ran out.
+fn size_or_none(structs: &StructTable, t: &CType) -> Result<u64, AllocError>
+    ensures { IfOk result (λ n. n ≡ unwrap_or (size structs.now t.now) 0) }
+{
+    if !structs.arrays_fit(t) {
+        return Err(AllocError);
+    }
+    match structs.size_of(t) {
+        Some(bytes) => Ok(bytes),
+        None => Ok(0),
+    }
+}
+
+/// A name alone, which is that of an array or a function.
+fn name_contents(
+    alloc: Global,
+    names: &Names,
+    place: Place,
+    t: &CType,
+    i: &Identifier,
+) -> Result<Initial, Halt>
+    ensures exact { (tags : Kept) → Gives (λ x. (x, tags)) result (constant_lem names.now place t.now (written.Name i.now) tags) }
+{
+    let a = named(alloc, i, names.meaning_of(&i.name))?;
+    if !is_name_fit(alloc, t, &a)? {
+        return Err(misfit(place));
+    }
+    Ok(Initial::Address(i.name.share()?))
+}
+
+/// `&` and a name.
+fn address_contents(
+    alloc: Global,
+    names: &Names,
+    place: Place,
+    t: &CType,
+    i: &Identifier,
+) -> Result<Initial, Halt>
+    ensures exact { (tags : Kept) → Gives (λ x. (x, tags)) result (constant_lem names.now place t.now (written.Address i.now) tags) }
+{
+    let a = named(alloc, i, names.meaning_of(&i.name))?;
+    if !is_pointer_fit(alloc, t, &a.ctype)? {
+        return Err(misfit(place));
+    }
+    Ok(Initial::Address(i.name.share()?))
+}
+
+/// The address of an element of an array.
+fn element_contents(
+    alloc: Global,
+    names: &Names,
+    tags: &Tags,
+    place: Place,
+    t: &CType,
+    i: &Identifier,
+    bracket: Place,
+    index: Literal,
+) -> Result<Initial, Halt>
+    ensures exact { Gives (λ x. (x, tags.now)) result (constant_lem names.now place t.now (written.Element i.now bracket index) tags.now) }
+{
+    let a = named(alloc, i, names.meaning_of(&i.name))?;
+    let Some(element) = element_of(&a.ctype) else {
+        return Err(misfit(bracket));
+    };
+    if !is_pointer_fit(alloc, t, element)? {
+        return Err(misfit(place));
+    }
+    let bytes = size_or_none(&tags.structs, element)?;
+    Ok(Initial::Element(i.name.share()?, u128::from(index.value) * u128::from(bytes)))
+}
+
+/// The contents that a constant gives. What does not fit is ill typed at the given place.
+fn constant_contents(
+    alloc: Global,
+    names: &Names,
+    tags: &Tags,
+    place: Place,
+    t: &CType,
+    c: &Constant,
+) -> Result<Initial, Halt>
+    ensures exact { Gives (λ x. (x, tags.now)) result (constant_lem names.now place t.now c.now tags.now) }
+{
+    match c {
+        Constant::Literal { negative, literal } => {
+            literal_contents(place, t, *negative, *literal)
+        }
+        Constant::Name(i) => name_contents(alloc, names, place, t, i),
+        Constant::Address(i) => address_contents(alloc, names, place, t, i),
+        Constant::Element {
+            array,
+            place: bracket,
+            index,
+        } => element_contents(alloc, names, tags, place, t, array, *bracket, *index),
+    }
+}
+
+/// The same of a number or a pointer. Nothing else has a constant.
+pub(crate) fn scalar_contents(
+    alloc: Global,
+    names: &Names,
+    tags: &Tags,
+    place: Place,
+    t: &CType,
+    c: &Constant,
+) -> Result<Initial, Halt>
+    ensures exact { Gives (λ x. (x, tags.now)) result (contents_lem names.now place t.now (initialiser.Constant c.now) tags.now) }
+{
+    if !is_scalar(t) {
+        return Err(misfit(place));
+    }
+    constant_contents(alloc, names, tags, place, t, c)
+}

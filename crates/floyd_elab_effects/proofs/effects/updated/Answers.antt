@@ -1,0 +1,29 @@
+use Rattle.std.proofs.Common.{subst, sym}
+use Rattle.std.proofs.lemmas.Result.{err_from_is_err_and}
+use Rattle.floyd_text.specs.Gives.{Gives}
+use Rattle.floyd_elab_expressions.specs.Behind.{behind}
+use Rattle.floyd_elab_expressions.specs.Expressions.{valued}
+use Rattle.floyd_elab_expressions.proofs.Answering.{shared_as}
+use Rattle.floyd_elab_effects.proofs.Leading.{updated_goes, updated_stops, updated_stops_later}
+use Rattle.floyd_elab_effects.proofs.effects.updated.Goals as goal
+
+pub returns-in_err-a : goal.returns-in_err-a
+returns-in_err-a c =
+    let r = err_from_is_err_and c.from_residual.result c.from_residual.ensures.1 in
+    record { exact = rw (r.1, r.2) (updated_stops c.args.op c.args.place (behind c.args.out.now c.args.target.now) (valued c.args.names.now c.args.r.now) c.args.progress.now c.in_err-a.field-0.0 c.in_err-a.ensures.exact) }
+
+pub returns-in_err-b : goal.returns-in_err-b
+returns-in_err-b c =
+    let r = err_from_is_err_and c.from_residual-in_err-b.result c.from_residual-in_err-b.ensures.1 in
+    record { exact = rw (r.1, r.2) (updated_stops_later c.args.op c.args.place (behind c.args.out.now c.args.target.now) (behind c.read.new.out c.in_ok-a.a) (valued c.args.names.now c.args.r.now) c.args.progress.now c.read.new.progress c.in_err-b.field-0.0 c.in_ok-a.ensures.exact c.in_err-b.ensures.exact) }
+
+pub returns : goal.returns
+returns c =
+    let value = valued c.args.names.now c.args.r.now in
+    record {
+      exact = subst (Gives _ c.send_operation.result)
+          (sym (updated_goes c.args.op c.args.place (behind c.args.out.now c.args.target.now) (behind c.read.new.out c.get.result.now) (behind c.valued.new.out c.get-2.result.now) value c.args.progress.now c.read.new.progress c.valued.new.progress
+          (shared_as _ c.read.new.out c.in_ok-a.a c.get.result.now c.read.new.progress c.get.ensures c.in_ok-a.ensures.exact)
+          (shared_as _ c.valued.new.out c.in_ok-b.b c.get-2.result.now c.valued.new.progress c.get-2.ensures c.in_ok-b.ensures.exact)))
+          c.send_operation.ensures.exact;
+    }

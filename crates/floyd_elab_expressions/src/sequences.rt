@@ -1,0 +1,28 @@
+ghost use Rattle.std.specs.Prelude.{◌≡◌};
+ghost use Rattle.floyd_elab_expressions.specs.Clight.{sequence as sequence_lem, store as store_lem};
+
+use floyd_clight::{Expr, Stmt, StmtList};
+
+/// One after the other.
+#[tactic(auto, using(crate::proofs::SequenceLemmas::sequence_long, crate::proofs::SequenceLemmas::sequence_last))]
+pub fn sequence(mut statements: StmtList) -> Stmt
+    ensures { result ≡ sequence_lem statements }
+{
+    if statements.len() > 1 {
+        return Stmt::Seq(statements);
+    }
+    match statements.pop() {
+        Some(only) => only,
+        None => Stmt::Skip,
+    }
+}
+
+/// Sets a temporary, or stores at a place.
+pub fn store(place: Expr, e: Expr) -> Stmt
+    ensures { result ≡ store_lem place e }
+{
+    match place {
+        Expr::Temp(name, _) => Stmt::Set(name, e),
+        place => Stmt::Assign(place, e),
+    }
+}

@@ -1,0 +1,38 @@
+ghost use Rattle.floyd_elab_laws.specs.Laws as specs;
+ghost use Rattle.floyd_elab_laws.specs.Reads as reads;
+
+/// Temporaries that hold what their types allow hold whole numbers.
+pub fn allowed_temporaries_hold_numbers()
+    ensures { specs.AllowedTemporariesHoldNumbers }
+{}
+
+/// An integer expression without `&&`, `||`, `?:` and reads of memory becomes one expression of Clight, whose value is
+/// the one that C gives, and which has none where C leaves it undefined.
+pub fn straight_expressions_keep_their_meaning()
+    ensures { specs.StraightExpressionsKeepTheirMeaning }
+{}
+
+/// Any integer expression without reads of memory becomes statements that set temporaries drawn for it, and one
+/// expression of Clight. Behind the statements it has C's value, also where a part is not evaluated that has none.
+pub fn expressions_keep_their_meaning()
+    ensures { specs.ExpressionsKeepTheirMeaning }
+{}
+
+/// What those statements make of the temporaries is what the machine makes of them, step by step.
+pub fn runs_are_steps()
+    ensures { specs.RunsAreSteps }
+{}
+
+/// The names drawn for temporaries differ from each other, and from those of a function's variables.
+pub fn drawn_names_are_apart()
+    ensures pulled { specs.PulledNamesDiffer }
+    ensures variables { specs.VariablesAreApart }
+{}
+
+/// No expression that elaboration makes loads from memory, but the whole right side of a set of a temporary drawn for
+/// that read: of an expression, of an effect, and of the body of a function.
+pub fn memory_is_read_by_pulls()
+    ensures values { reads.ValuesReadByPulls }
+    ensures effects { reads.EffectsReadByPulls }
+    ensures bodies { reads.BodiesReadByPulls }
+{}

@@ -1,0 +1,26 @@
+use Rattle.std.proofs.Common.{◌∙◌}
+use Rattle.floyd_elab_expressions.specs.Behind.{behind}
+use Rattle.floyd_elab_statements.proofs.Steps.{gives_as, gives_err}
+use Rattle.floyd_elab_statements.proofs.Walking.{shared_as}
+use Rattle.floyd_elab_statements.proofs.ConditionLemmas.{test_unread, test_read}
+use Rattle.floyd_elab_statements.proofs.conditions.test.Goals as goal
+
+pub returns-in_err-a : goal.returns-in_err-a
+returns-in_err-a c =
+    let h = c.in_err-a.field-0.0 in
+    record {
+      exact = gives_err _ c.from_residual.result h _ c.from_residual.ensures.1
+          (test_unread c.args.names.now c.args.place c.args.e.now c.args.out.now c.args.progress.now h c.in_err-a.ensures.exact);
+    }
+
+pub returns : goal.returns
+returns c =
+    let q = c.valued.new.progress in
+    let out = c.valued.new.out in
+    let a = c.get.result.now in
+    record {
+      exact = gives_as _ c.judged.result _ _
+          (test_read c.args.names.now c.args.place c.args.e.now c.args.out.now c.args.progress.now (behind out a) q
+          (shared_as _ out c.in_ok-a.a a q (c.get.ensures ∙ c.in_ok-value.ensures) c.in_ok-a.ensures.exact))
+          (c.judged.ensures.exact out q);
+    }

@@ -1,0 +1,587 @@
+use Rattle.std.proofs.Common.{◌≡◌, ◌+◌, ◌<◌, Bool, List, [], ◌∷◌, ◌++◌, length, drop, arith, refl, ap, sym, ◌∙◌}
+use Rattle.std.specs.Prelude.{Result, Ok}
+use Rattle.std.proofs.lemmas.List.{append-nil, append_assoc, drop_more}
+use Rattle.std.proofs.Math.Seq.{drop-length}
+use Rattle.floyd_text.specs.declared.place.Place.{Place}
+use Rattle.floyd_text.specs.declared.refusal.Refusal.{Refusal}
+use Rattle.floyd_cparse_trees.specs.declared.expressions.CExpr.{CExpr}
+use Rattle.floyd_cparse_trees.specs.declared.statements.CStatement as c_of
+use Rattle.floyd_elab_names.specs.Scopes.{left}
+use Rattle.floyd_clight.specs.declared.syntax.Stmt.{Stmt}
+use Rattle.floyd_elab_expressions.specs.declared.progress.Progress.{Progress}
+use Rattle.floyd_elab_expressions.specs.Behind.{appended}
+use Rattle.floyd_elab_addresses.specs.Flags.{statement_flags}
+use Rattle.floyd_elab_addresses.specs.Parts.{in_all, flags_of_all, flags_of_item}
+use Rattle.floyd_elab_addresses.proofs.StatementParts.{flags-if, flags-if_else, flags-while, flags-do, flags-for, flags-block}
+use Rattle.floyd_elab_statements.specs.LocalParts.{beginning}
+use Rattle.floyd_elab_statements.specs.Statements.{statement, loop_test, optional_test}
+use Rattle.floyd_elab_statements.specs.Walks.{item, all_items, sequenced, with_else}
+use Rattle.floyd_elab_statements.proofs.Steps.{gives_err, gives_as, stops_as, on_ok, beside_same, appended_none}
+use Rattle.floyd_elab_statements.proofs.Exits.{only_ok}
+use Rattle.floyd_elab_statements.proofs.Walking.{in_empty, empty_stops, sequenced_goes, sequenced_stops, left_same, names_as}
+use Rattle.floyd_elab_statements.proofs.ItemLemmas.{block_is, next_item, stopped_item, flags_first}
+use Rattle.floyd_elab_statements.proofs.StatementLemmas.{if_stops, if_branch_stops, if_goes, if_else_stops, then_stops, then_goes, else_stops, else_goes, while_stops, while_body_stops, while_goes, do_stops, do_test_stops, do_goes, for_stops, for_test_stops, for_third_stops, for_body_stops, for_goes}
+use Rattle.floyd_elab_statements.proofs.statements.+statement.Goals as goal
+
+-- Statements by their kind.
+
+pub statement-returns-in-Block : goal.statement-returns-in-Block
+statement-returns-in-Block t c =
+    let items = c.in-Block.items in
+    let all = c.as_slice.result.now in
+    let whole : c.args.s.now ≡ c_of.Block all = c.in-Block.is ∙ ap (λ l. c_of.Block l) (sym c.as_slice.ensures) in
+    record {
+      exact = λ more are.
+          gives_as _ c.block.result _ _ (ap (λ u. appended c.args.out.now (statement c.args.result_type.now c.args.names.now u c.args.progress.now)) whole)
+          (c.block.ensures.exact more (are ∙ ap (λ fs. fs ++ more) (ap statement_flags whole ∙ flags-block all)));
+      flags = λ more are. c.block.ensures.flags more (are ∙ ap (λ fs. fs ++ more) (ap statement_flags whole ∙ flags-block all));
+      names = c.block.ensures.names;
+    }
+
+pub statement-returns-in-Empty : goal.statement-returns-in-Empty
+statement-returns-in-Empty t c =
+    let is = c.in-Empty.is in
+    let p = c.args.progress.now in
+    let out = c.args.out.now in
+    record {
+      exact = λ more are. ap (λ u. appended out (statement c.args.result_type.now c.args.names.now u p)) is ∙ appended_none out p;
+      flags = λ more are. are ∙ ap (λ u. statement_flags u ++ more) is;
+      names = refl;
+    }
+
+pub statement-returns-in-Effect : goal.statement-returns-in-Effect
+statement-returns-in-Effect t c =
+    let is = c.in-Effect.is in
+    record {
+      exact = λ more are. gives_as _ c.effect.result _ _ (ap (λ u. appended c.args.out.now (statement c.args.result_type.now c.args.names.now u c.args.progress.now)) is) c.effect.ensures.exact;
+      flags = λ more are. on_ok c.effect.result (are ∙ ap (λ u. statement_flags u ++ more) is);
+      names = on_ok c.effect.result refl;
+    }
+
+pub statement-returns-in-If : goal.statement-returns-in-If
+statement-returns-in-If t c =
+    let place = c.in-If.place in
+    let e = c.in-If.condition in
+    let a = c.get.result.now in
+    let whole : c.args.s.now ≡ c_of.If place e a = c.in-If.is ∙ ap (λ u. c_of.If place e u) (sym c.get.ensures) in
+    record {
+      exact = λ more are.
+          gives_as _ c.if_then.result _ _ (ap (λ u. appended c.args.out.now (statement c.args.result_type.now c.args.names.now u c.args.progress.now)) whole)
+          (c.if_then.ensures.exact more (are ∙ ap (λ fs. fs ++ more) (ap statement_flags whole ∙ flags-if place e a)));
+      flags = λ more are. c.if_then.ensures.flags more (are ∙ ap (λ fs. fs ++ more) (ap statement_flags whole ∙ flags-if place e a));
+      names = c.if_then.ensures.names;
+    }
+
+-- the flags of both branches
+both_flags : (s : c_of.CStatement) (place : Place) (e : CExpr) (a b : c_of.CStatement) (flags more : List Bool) → s ≡ c_of.IfElse place e a b → flags ≡ statement_flags s ++ more → flags ≡ statement_flags a ++ (statement_flags b ++ more)
+both_flags s place e a b flags more whole are = are ∙ ap (λ fs. fs ++ more) (ap statement_flags whole ∙ flags-if_else place e a b) ∙ append_assoc (statement_flags a) (statement_flags b) more
+
+pub statement-returns-in_err-test-in-IfElse : goal.statement-returns-in_err-test-in-IfElse
+statement-returns-in_err-test-in-IfElse t c =
+    let h = c.in_err-test-in-IfElse.field-0.0 in
+    let r = c.from_residual in
+    record {
+      exact = λ more are.
+          gives_err _ r.result h _ r.ensures.1
+          (stops_as h _ _ (ap (λ u. appended c.args.out.now (statement c.args.result_type.now c.args.names.now u c.args.progress.now)) c.in-IfElse.is)
+          (if_else_stops c.args.result_type.now c.args.names.now c.in-IfElse.place c.in-IfElse.condition c.in-IfElse.then c.in-IfElse.otherwise c.args.out.now c.args.progress.now h c.in_err-test-in-IfElse.ensures.exact));
+      flags = λ more are. only_ok r.result _ _ r.ensures.1;
+      names = only_ok r.result _ _ r.ensures.1;
+    }
+
+pub statement-returns-in_err-first-in-IfElse : goal.statement-returns-in_err-first-in-IfElse
+statement-returns-in_err-first-in-IfElse t c =
+    let h = c.in_err-first-in-IfElse.field-0.0 in
+    let r = c.from_residual-in_err-first-in-IfElse in
+    let place = c.in-IfElse.place in
+    let e = c.in-IfElse.condition in
+    let a = c.get-in-IfElse.result.now in
+    let b = c.in-IfElse.otherwise in
+    let q = c.test.new.progress in
+    let whole : c.args.s.now ≡ c_of.IfElse place e a b = c.in-IfElse.is ∙ ap (λ u. c_of.IfElse place e u b) (sym c.get-in-IfElse.ensures) in
+    record {
+      exact = λ more are.
+          gives_err _ r.result h _ r.ensures.1
+          (stops_as h _ _ (ap (λ u. appended c.args.out.now (statement c.args.result_type.now c.args.names.now u c.args.progress.now)) whole)
+          (then_stops c.args.result_type.now c.args.names.now place e a b c.args.out.now c.args.progress.now
+          c.test.new.out c.in_ok-test-in-IfElse.test q c.in_ok-test-in-IfElse.ensures.exact h
+          (empty_stops (λ l. sequenced l (statement c.args.result_type.now c.args.names.now a q)) c.new.result h c.new.ensures
+          (c.in_err-first-in-IfElse.ensures.exact (statement_flags b ++ more) (both_flags c.args.s.now place e a b c.args.flags.now more whole are)))));
+      flags = λ more are. only_ok r.result _ _ r.ensures.1;
+      names = only_ok r.result _ _ r.ensures.1;
+    }
+
+pub statement-returns-in_ok-first-in-IfElse : goal.statement-returns-in_ok-first-in-IfElse
+statement-returns-in_ok-first-in-IfElse t c =
+    let result = c.args.result_type.now in
+    let names = c.args.names.now in
+    let place = c.in-IfElse.place in
+    let e = c.in-IfElse.condition in
+    let a = c.get-in-IfElse.result.now in
+    let b = c.get-in-IfElse-2.result.now in
+    let q = c.test.new.progress in
+    let y = c.single.new.progress in
+    let whole : c.args.s.now ≡ c_of.IfElse place e a b = c.in-IfElse.is ∙ ap (λ u. c_of.IfElse place e u c.in-IfElse.otherwise) (sym c.get-in-IfElse.ensures) ∙ ap (λ u. c_of.IfElse place e a u) (sym c.get-in-IfElse-2.ensures) in
+    let d = c.if_else in
+    record {
+      exact = λ more are.
+          let fits = both_flags c.args.s.now place e a b c.args.flags.now more whole are in
+          gives_as _ d.result _ _
+          (ap (λ u. appended c.args.out.now (statement result names u c.args.progress.now)) whole
+          ∙ then_goes result names place e a b c.args.out.now c.args.progress.now c.test.new.out c.in_ok-test-in-IfElse.test q c.in_ok-test-in-IfElse.ensures.exact
+          c.in_ok-first-in-IfElse.first y
+          (in_empty (λ l. sequenced l (statement result names a q)) c.new.result _ c.new.ensures (c.in_ok-first-in-IfElse.ensures.exact (statement_flags b ++ more) fits))
+          ∙ ap (λ n. with_else c.test.new.out c.in_ok-test-in-IfElse.test c.in_ok-first-in-IfElse.first (sequenced [] (statement result n b y))) (sym c.in_ok-first-in-IfElse.ensures.names))
+          (d.ensures.exact more (c.in_ok-first-in-IfElse.ensures.flags (statement_flags b ++ more) fits));
+      flags = λ more are. d.ensures.flags more (c.in_ok-first-in-IfElse.ensures.flags (statement_flags b ++ more) (both_flags c.args.s.now place e a b c.args.flags.now more whole are));
+      names = names_as d.result d.new.names c.single.new.names names c.in_ok-first-in-IfElse.ensures.names d.ensures.names;
+    }
+
+pub statement-returns-in-While : goal.statement-returns-in-While
+statement-returns-in-While t c =
+    let place = c.in-While.place in
+    let e = c.in-While.condition in
+    let a = c.get-in-While.result.now in
+    let whole : c.args.s.now ≡ c_of.While place e a = c.in-While.is ∙ ap (λ u. c_of.While place e u) (sym c.get-in-While.ensures) in
+    record {
+      exact = λ more are.
+          gives_as _ c.while_loop.result _ _ (ap (λ u. appended c.args.out.now (statement c.args.result_type.now c.args.names.now u c.args.progress.now)) whole)
+          (c.while_loop.ensures.exact more (are ∙ ap (λ fs. fs ++ more) (ap statement_flags whole ∙ flags-while place e a)));
+      flags = λ more are. c.while_loop.ensures.flags more (are ∙ ap (λ fs. fs ++ more) (ap statement_flags whole ∙ flags-while place e a));
+      names = c.while_loop.ensures.names;
+    }
+
+pub statement-returns-in-Do : goal.statement-returns-in-Do
+statement-returns-in-Do t c =
+    let place = c.in-Do.place in
+    let e = c.in-Do.condition in
+    let a = c.get-in-Do.result.now in
+    let whole : c.args.s.now ≡ c_of.Do a place e = c.in-Do.is ∙ ap (λ u. c_of.Do u place e) (sym c.get-in-Do.ensures) in
+    record {
+      exact = λ more are.
+          gives_as _ c.do_loop.result _ _ (ap (λ u. appended c.args.out.now (statement c.args.result_type.now c.args.names.now u c.args.progress.now)) whole)
+          (c.do_loop.ensures.exact more (are ∙ ap (λ fs. fs ++ more) (ap statement_flags whole ∙ flags-do a place e)));
+      flags = λ more are. c.do_loop.ensures.flags more (are ∙ ap (λ fs. fs ++ more) (ap statement_flags whole ∙ flags-do a place e));
+      names = c.do_loop.ensures.names;
+    }
+
+pub statement-returns-in-For : goal.statement-returns-in-For
+statement-returns-in-For t c =
+    let place = c.in-For.place in
+    let first = c.in-For.first in
+    let e = c.in-For.condition in
+    let third = c.in-For.third in
+    let a = c.get-in-For.result.now in
+    let whole : c.args.s.now ≡ c_of.For place first e third a = c.in-For.is ∙ ap (λ u. c_of.For place first e third u) (sym c.get-in-For.ensures) in
+    record {
+      exact = λ more are.
+          gives_as _ c.for_loop.result _ _ (ap (λ u. appended c.args.out.now (statement c.args.result_type.now c.args.names.now u c.args.progress.now)) whole)
+          (c.for_loop.ensures.exact more (are ∙ ap (λ fs. fs ++ more) (ap statement_flags whole ∙ flags-for place first e third a)));
+      flags = λ more are. c.for_loop.ensures.flags more (are ∙ ap (λ fs. fs ++ more) (ap statement_flags whole ∙ flags-for place first e third a));
+      names = c.for_loop.ensures.names;
+    }
+
+pub statement-returns-in-Break : goal.statement-returns-in-Break
+statement-returns-in-Break t c =
+    let is = c.in-Break.is in
+    let p = c.args.progress.now in
+    record {
+      exact = λ more are. gives_as _ c.push_one.result _ _ (ap (λ u. appended c.args.out.now (statement c.args.result_type.now c.args.names.now u p)) is) (c.push_one.ensures.exact p);
+      flags = λ more are. on_ok c.push_one.result (are ∙ ap (λ u. statement_flags u ++ more) is);
+      names = on_ok c.push_one.result refl;
+    }
+
+pub statement-returns-in-Continue : goal.statement-returns-in-Continue
+statement-returns-in-Continue t c =
+    let is = c.in-Continue.is in
+    let p = c.args.progress.now in
+    record {
+      exact = λ more are. gives_as _ c.push_one-in-Continue.result _ _ (ap (λ u. appended c.args.out.now (statement c.args.result_type.now c.args.names.now u p)) is) (c.push_one-in-Continue.ensures.exact p);
+      flags = λ more are. on_ok c.push_one-in-Continue.result (are ∙ ap (λ u. statement_flags u ++ more) is);
+      names = on_ok c.push_one-in-Continue.result refl;
+    }
+
+pub statement-returns-in-Return : goal.statement-returns-in-Return
+statement-returns-in-Return t c =
+    let is = c.in-Return.is in
+    record {
+      exact = λ more are. gives_as _ c.returned.result _ _ (ap (λ u. appended c.args.out.now (statement c.args.result_type.now c.args.names.now u c.args.progress.now)) is) c.returned.ensures.exact;
+      flags = λ more are. on_ok c.returned.result (are ∙ ap (λ u. statement_flags u ++ more) is);
+      names = on_ok c.returned.result refl;
+    }
+
+-- A block.
+
+pub block-returns-in_err-all : goal.block-returns-in_err-all
+block-returns-in_err-all t c =
+    let h = c.in_err-all.field-0.0 in
+    let r = c.from_residual-in_err-all in
+    record {
+      exact = λ more are.
+          gives_err _ r.result h _ r.ensures.1
+          (stops_as h _ _ (block_is c.args.result_type.now c.args.names.now c.enter.new.self c.args.items.now c.args.out.now c.args.progress.now c.in_ok-enter.ensures.ok) (c.in_err-all.ensures.exact more are));
+      flags = λ more are. only_ok r.result _ _ r.ensures.1;
+      names = only_ok r.result _ _ r.ensures.1;
+    }
+
+pub block-returns : goal.block-returns
+block-returns t c =
+    record {
+      exact = λ more are.
+          block_is c.args.result_type.now c.args.names.now c.enter.new.self c.args.items.now c.args.out.now c.args.progress.now c.in_ok-enter.ensures.ok
+          ∙ c.in_ok-all.ensures.exact more are;
+      flags = λ more are. c.in_ok-all.ensures.flags more are;
+      names = c.leave.ensures ∙ c.in_ok-all.ensures.left ∙ ap left c.in_ok-enter.ensures.ok;
+    }
+
+-- Items.
+
+pub all-items-init : goal.all-items-init
+all-items-init t c = record { left = refl; flags = λ more h. h; exact = λ more h. refl }
+
+pub all-items-preserved : goal.all-items-preserved
+all-items-preserved t c =
+    let items = c.args.items.now in
+    let at = c.items.one-index in
+    let one = c.one-item.result in
+    let rest = drop (at + 1) items in
+    let within : at < length items = omega arith in
+    let split : drop at items ≡ one ∷ rest = drop_more items at one within ∙ ap (λ v. v ∷ rest) (sym c.one-item.is) in
+    record {
+      left = c.in_ok-item.ensures.left ∙ c.items.invariant.left;
+      flags = λ more h. c.in_ok-item.ensures.flags (λ x. in_all x rest) (flags_of_all rest ++ more) (flags_first one rest (drop at items) c.items.flags more split (c.items.invariant.flags more h));
+      exact = λ more h.
+          c.items.invariant.exact more h
+          ∙ ap (λ l. appended c.items.out (all_items c.args.result_type.now c.items.names l c.items.progress)) split
+          ∙ next_item c.args.result_type.now c.items.out c.items.names one rest c.items.progress c.item.new.out c.item.new.names c.item.new.progress
+          (c.in_ok-item.ensures.exact (λ x. in_all x rest) (flags_of_all rest ++ more) (flags_first one rest (drop at items) c.items.flags more split (c.items.invariant.flags more h)));
+    }
+
+pub all-returns-in_err-item : goal.all-returns-in_err-item
+all-returns-in_err-item t c =
+    let items = c.args.items.now in
+    let at = c.items.one-index in
+    let one = c.one-item.result in
+    let rest = drop (at + 1) items in
+    let within : at < length items = omega arith in
+    let split : drop at items ≡ one ∷ rest = drop_more items at one within ∙ ap (λ v. v ∷ rest) (sym c.one-item.is) in
+    let h = c.in_err-item.field-0.0 in
+    let r = c.from_residual in
+    record {
+      exact = λ more are.
+          gives_err _ r.result h _ r.ensures.1
+          (stops_as h _ _
+          (c.items.invariant.exact more are ∙ ap (λ l. appended c.items.out (all_items c.args.result_type.now c.items.names l c.items.progress)) split)
+          (stopped_item c.args.result_type.now c.items.out c.items.names one rest c.items.progress h
+          (c.in_err-item.ensures.exact (λ x. in_all x rest) (flags_of_all rest ++ more) (flags_first one rest (drop at items) c.items.flags more split (c.items.invariant.flags more are)))));
+      flags = λ more are. only_ok r.result _ _ r.ensures.1;
+      left = only_ok r.result _ _ r.ensures.1;
+    }
+
+pub all-returns : goal.all-returns
+all-returns t c =
+    let items = c.args.items.now in
+    let at_end : c.items.one-index ≡ length items = omega arith in
+    let done : drop c.items.one-index items ≡ [] = ap (λ n. drop n items) at_end ∙ drop-length items in
+    record {
+      exact = λ more h.
+          c.items.invariant.exact more h
+          ∙ ap (λ l. appended c.items.out (all_items c.args.result_type.now c.items.names l c.items.progress)) done
+          ∙ ap (λ (l : List Stmt). let made : Result (List Stmt × Progress) Refusal = Ok (l, c.items.progress) in made) (append-nil c.items.out);
+      flags = λ more h. c.items.invariant.flags more h ∙ ap (λ l. flags_of_all l ++ more) done;
+      left = c.items.invariant.left;
+    }
+
+pub item-returns-in-Declaration : goal.item-returns-in-Declaration
+item-returns-in-Declaration t c =
+    let is = c.in-Declaration.is in
+    record {
+      exact = λ rest more are.
+          gives_as _ c.declaration.result _ _ (ap (λ u. beginning c.args.out.now (item c.args.result_type.now c.args.names.now u rest c.args.progress.now)) is)
+          (c.declaration.ensures.exact rest more (are ∙ ap (λ u. flags_of_item u rest ++ more) is));
+      flags = λ rest more are. c.declaration.ensures.flags rest more (are ∙ ap (λ u. flags_of_item u rest ++ more) is);
+      left = c.declaration.ensures.left;
+    }
+
+pub item-returns-in-Statement : goal.item-returns-in-Statement
+item-returns-in-Statement t c =
+    let is = c.in-Statement.is in
+    let names = c.args.names.now in
+    record {
+      exact = λ rest more are.
+          gives_as _ c.statement.result _ _ (ap (λ u. beginning c.args.out.now (item c.args.result_type.now names u rest c.args.progress.now)) is)
+          (beside_same c.statement.result c.args.out.now (statement c.args.result_type.now names c.in-Statement.s c.args.progress.now) c.statement.new.out names c.statement.new.names c.statement.new.progress
+          c.statement.ensures.names
+          (c.statement.ensures.exact more (are ∙ ap (λ u. flags_of_item u rest ++ more) is)));
+      flags = λ rest more are. c.statement.ensures.flags more (are ∙ ap (λ u. flags_of_item u rest ++ more) is);
+      left = left_same c.statement.result c.statement.new.names names c.statement.ensures.names;
+    }
+
+-- A statement as one of Clight.
+
+pub single-returns-in_err-statement : goal.single-returns-in_err-statement
+single-returns-in_err-statement t c =
+    let h = c.in_err-statement.field-0.0 in
+    let r = c.from_residual in
+    record {
+      exact = λ more are. gives_err _ r.result h _ r.ensures.1 (sequenced_stops h c.args.before (statement c.args.result_type.now c.args.names.now c.args.s.now c.args.progress.now) (c.in_err-statement.ensures.exact more are));
+      flags = λ more are. only_ok r.result _ _ r.ensures.1;
+      names = only_ok r.result _ _ r.ensures.1;
+    }
+
+pub single-returns : goal.single-returns
+single-returns t c =
+    record {
+      exact = λ more are.
+          sequenced_goes c.args.before c.statement.new.out (statement c.args.result_type.now c.args.names.now c.args.s.now c.args.progress.now) c.statement.new.progress _
+          (c.in_ok-statement.ensures.exact more are) c.in_ok-shared.ensures;
+      flags = λ more are. c.in_ok-statement.ensures.flags more are;
+      names = c.in_ok-statement.ensures.names;
+    }
+
+-- `if`.
+
+pub if_then-returns-in_err-test : goal.if_then-returns-in_err-test
+if_then-returns-in_err-test t c =
+    let h = c.in_err-test.field-0.0 in
+    let r = c.from_residual in
+    record {
+      exact = λ more are.
+          gives_err _ r.result h _ r.ensures.1
+          (if_stops c.args.result_type.now c.args.names.now c.args.place c.args.condition.now c.args.then.now c.args.out.now c.args.progress.now h c.in_err-test.ensures.exact);
+      flags = λ more are. only_ok r.result _ _ r.ensures.1;
+      names = only_ok r.result _ _ r.ensures.1;
+    }
+
+pub if_then-returns-in_err-first : goal.if_then-returns-in_err-first
+if_then-returns-in_err-first t c =
+    let h = c.in_err-first.field-0.0 in
+    let r = c.from_residual-in_err-first in
+    let q = c.test.new.progress in
+    record {
+      exact = λ more are.
+          gives_err _ r.result h _ r.ensures.1
+          (if_branch_stops c.args.result_type.now c.args.names.now c.args.place c.args.condition.now c.args.then.now c.args.out.now c.args.progress.now
+          c.test.new.out c.in_ok-test.test q c.in_ok-test.ensures.exact h
+          (empty_stops (λ l. sequenced l (statement c.args.result_type.now c.args.names.now c.args.then.now q)) c.new.result h c.new.ensures (c.in_err-first.ensures.exact more are)));
+      flags = λ more are. only_ok r.result _ _ r.ensures.1;
+      names = only_ok r.result _ _ r.ensures.1;
+    }
+
+pub if_then-returns : goal.if_then-returns
+if_then-returns t c =
+    let q = c.test.new.progress in
+    record {
+      exact = λ more are.
+          if_goes c.args.result_type.now c.args.names.now c.args.place c.args.condition.now c.args.then.now c.args.out.now c.args.progress.now
+          c.test.new.out c.in_ok-test.test q c.in_ok-test.ensures.exact
+          c.in_ok-first.first c.in_ok-first.first c.in_ok-second.second c.get.result.now c.push_if.new.out c.single.new.progress
+          (in_empty (λ l. sequenced l (statement c.args.result_type.now c.args.names.now c.args.then.now q)) c.new.result _ c.new.ensures (c.in_ok-first.ensures.exact more are))
+          c.get.ensures refl c.in_ok-second.ensures c.in_ok-push_if.ensures;
+      flags = λ more are. c.in_ok-first.ensures.flags more are;
+      names = c.in_ok-first.ensures.names;
+    }
+
+-- The second branch.
+
+pub if_else-returns-in_err-second : goal.if_else-returns-in_err-second
+if_else-returns-in_err-second t c =
+    let h = c.in_err-second.field-0.0 in
+    let r = c.from_residual in
+    let b = statement c.args.result_type.now c.args.names.now c.args.otherwise.now c.args.progress.now in
+    record {
+      exact = λ more are.
+          gives_err _ r.result h _ r.ensures.1
+          (else_stops h c.args.out.now c.args.test c.args.first (sequenced [] b)
+          (empty_stops (λ l. sequenced l b) c.new.result h c.new.ensures (c.in_err-second.ensures.exact more are)));
+      flags = λ more are. only_ok r.result _ _ r.ensures.1;
+      names = only_ok r.result _ _ r.ensures.1;
+    }
+
+pub if_else-returns : goal.if_else-returns
+if_else-returns t c =
+    let b = statement c.args.result_type.now c.args.names.now c.args.otherwise.now c.args.progress.now in
+    record {
+      exact = λ more are.
+          else_goes c.args.out.now c.push_if.new.out c.args.test c.get.result.now c.args.first c.in_ok-second.second (sequenced [] b) c.single.new.progress
+          (in_empty (λ l. sequenced l b) c.new.result _ c.new.ensures (c.in_ok-second.ensures.exact more are))
+          c.get.ensures c.in_ok-push_if.ensures;
+      flags = λ more are. c.in_ok-second.ensures.flags more are;
+      names = c.in_ok-second.ensures.names;
+    }
+
+-- `while`.
+
+pub while_loop-returns-in_err-loop_test : goal.while_loop-returns-in_err-loop_test
+while_loop-returns-in_err-loop_test t c =
+    let h = c.in_err-loop_test.field-0.0 in
+    let r = c.from_residual in
+    let tested = loop_test c.args.names.now c.args.place c.args.condition.now c.args.progress.now in
+    record {
+      exact = λ more are.
+          gives_err _ r.result h _ r.ensures.1
+          (while_stops c.args.result_type.now c.args.names.now c.args.place c.args.condition.now c.args.body.now c.args.out.now c.args.progress.now h
+          (empty_stops (λ l. appended l tested) c.new-inner.result h c.new-inner.ensures c.in_err-loop_test.ensures.exact));
+      flags = λ more are. only_ok r.result _ _ r.ensures.1;
+      names = only_ok r.result _ _ r.ensures.1;
+    }
+
+pub while_loop-returns-in_err-first : goal.while_loop-returns-in_err-first
+while_loop-returns-in_err-first t c =
+    let h = c.in_err-first.field-0.0 in
+    let r = c.from_residual-in_err-first in
+    let tested = loop_test c.args.names.now c.args.place c.args.condition.now c.args.progress.now in
+    record {
+      exact = λ more are.
+          gives_err _ r.result h _ r.ensures.1
+          (while_body_stops c.args.result_type.now c.args.names.now c.args.place c.args.condition.now c.args.body.now c.args.out.now c.args.progress.now
+          c.loop_test.new.out c.loop_test.new.progress
+          (in_empty (λ l. appended l tested) c.new-inner.result _ c.new-inner.ensures c.in_ok-loop_test.ensures.exact) h
+          (c.in_err-first.ensures.exact more are));
+      flags = λ more are. only_ok r.result _ _ r.ensures.1;
+      names = only_ok r.result _ _ r.ensures.1;
+    }
+
+pub while_loop-returns : goal.while_loop-returns
+while_loop-returns t c =
+    let tested = loop_test c.args.names.now c.args.place c.args.condition.now c.args.progress.now in
+    record {
+      exact = λ more are.
+          while_goes c.args.result_type.now c.args.names.now c.args.place c.args.condition.now c.args.body.now c.args.out.now c.args.progress.now
+          c.loop_test.new.out c.loop_test.new.progress
+          (in_empty (λ l. appended l tested) c.new-inner.result _ c.new-inner.ensures c.in_ok-loop_test.ensures.exact)
+          c.in_ok-first.first c.in_ok-second.second c.push_loop.new.out c.single.new.progress
+          (c.in_ok-first.ensures.exact more are) c.in_ok-second.ensures c.in_ok-push_loop.ensures;
+      flags = λ more are. c.in_ok-first.ensures.flags more are;
+      names = c.in_ok-first.ensures.names;
+    }
+
+-- `do`.
+
+pub do_loop-returns-in_err-first : goal.do_loop-returns-in_err-first
+do_loop-returns-in_err-first t c =
+    let h = c.in_err-first.field-0.0 in
+    let r = c.from_residual in
+    record {
+      exact = λ more are.
+          gives_err _ r.result h _ r.ensures.1
+          (do_stops c.args.result_type.now c.args.names.now c.args.body.now c.args.place c.args.condition.now c.args.out.now c.args.progress.now h
+          (empty_stops (λ l. sequenced l (statement c.args.result_type.now c.args.names.now c.args.body.now c.args.progress.now)) c.new.result h c.new.ensures (c.in_err-first.ensures.exact more are)));
+      flags = λ more are. only_ok r.result _ _ r.ensures.1;
+      names = only_ok r.result _ _ r.ensures.1;
+    }
+
+pub do_loop-returns-in_err-second : goal.do_loop-returns-in_err-second
+do_loop-returns-in_err-second t c =
+    let h = c.in_err-second.field-0.0 in
+    let r = c.from_residual-in_err-second in
+    let result = c.args.result_type.now in
+    let names = c.args.names.now in
+    let q = c.single.new.progress in
+    record {
+      exact = λ more are.
+          gives_err _ r.result h _ r.ensures.1
+          (do_test_stops result names c.args.body.now c.args.place c.args.condition.now c.args.out.now c.args.progress.now
+          c.in_ok-first.first q
+          (in_empty (λ l. sequenced l (statement result names c.args.body.now c.args.progress.now)) c.new.result _ c.new.ensures (c.in_ok-first.ensures.exact more are)) h
+          (stops_as h _ _ (ap (λ n. sequenced [] (loop_test n c.args.place c.args.condition.now q)) (sym c.in_ok-first.ensures.names)) c.in_err-second.ensures.exact));
+      flags = λ more are. only_ok r.result _ _ r.ensures.1;
+      names = only_ok r.result _ _ r.ensures.1;
+    }
+
+pub do_loop-returns : goal.do_loop-returns
+do_loop-returns t c =
+    let result = c.args.result_type.now in
+    let names = c.args.names.now in
+    let q = c.single.new.progress in
+    record {
+      exact = λ more are.
+          do_goes result names c.args.body.now c.args.place c.args.condition.now c.args.out.now c.args.progress.now
+          c.in_ok-first.first q
+          (in_empty (λ l. sequenced l (statement result names c.args.body.now c.args.progress.now)) c.new.result _ c.new.ensures (c.in_ok-first.ensures.exact more are))
+          c.in_ok-second.second c.push_loop.new.out c.test_behind.new.progress
+          (ap (λ n. sequenced [] (loop_test n c.args.place c.args.condition.now q)) (sym c.in_ok-first.ensures.names) ∙ c.in_ok-second.ensures.exact)
+          c.in_ok-push_loop.ensures;
+      flags = λ more are. c.in_ok-first.ensures.flags more are;
+      names = c.in_ok-first.ensures.names;
+    }
+
+-- `for`.
+
+pub for_loop-returns-in_err-optional_effect : goal.for_loop-returns-in_err-optional_effect
+for_loop-returns-in_err-optional_effect t c =
+    let h = c.in_err-optional_effect.field-0.0 in
+    let r = c.from_residual in
+    record {
+      exact = λ more are.
+          gives_err _ r.result h _ r.ensures.1
+          (for_stops c.args.result_type.now c.args.names.now c.args.place c.args.first.now c.args.condition.now c.args.third.now c.args.body.now c.args.out.now c.args.progress.now h c.in_err-optional_effect.ensures.exact);
+      flags = λ more are. only_ok r.result _ _ r.ensures.1;
+      names = only_ok r.result _ _ r.ensures.1;
+    }
+
+pub for_loop-returns-in_err-optional_test : goal.for_loop-returns-in_err-optional_test
+for_loop-returns-in_err-optional_test t c =
+    let h = c.in_err-optional_test.field-0.0 in
+    let r = c.from_residual-in_err-optional_test in
+    let q = c.optional_effect.new.progress in
+    record {
+      exact = λ more are.
+          gives_err _ r.result h _ r.ensures.1
+          (for_test_stops c.args.result_type.now c.args.names.now c.args.place c.args.first.now c.args.condition.now c.args.third.now c.args.body.now c.args.out.now c.args.progress.now
+          c.optional_effect.new.out q c.in_ok-optional_effect.ensures.exact h
+          (empty_stops (λ l. appended l (optional_test c.args.names.now c.args.place c.args.condition.now q)) c.new-inner.result h c.new-inner.ensures c.in_err-optional_test.ensures.exact));
+      flags = λ more are. only_ok r.result _ _ r.ensures.1;
+      names = only_ok r.result _ _ r.ensures.1;
+    }
+
+pub for_loop-returns-in_err-second : goal.for_loop-returns-in_err-second
+for_loop-returns-in_err-second t c =
+    let h = c.in_err-second.field-0.0 in
+    let r = c.from_residual-in_err-second in
+    let q = c.optional_effect.new.progress in
+    record {
+      exact = λ more are.
+          gives_err _ r.result h _ r.ensures.1
+          (for_third_stops c.args.result_type.now c.args.names.now c.args.place c.args.first.now c.args.condition.now c.args.third.now c.args.body.now c.args.out.now c.args.progress.now
+          c.optional_effect.new.out q c.in_ok-optional_effect.ensures.exact
+          c.optional_test.new.out c.optional_test.new.progress
+          (in_empty (λ l. appended l (optional_test c.args.names.now c.args.place c.args.condition.now q)) c.new-inner.result _ c.new-inner.ensures c.in_ok-optional_test.ensures.exact)
+          h c.in_err-second.ensures.exact);
+      flags = λ more are. only_ok r.result _ _ r.ensures.1;
+      names = only_ok r.result _ _ r.ensures.1;
+    }
+
+pub for_loop-returns-in_err-first : goal.for_loop-returns-in_err-first
+for_loop-returns-in_err-first t c =
+    let h = c.in_err-first.field-0.0 in
+    let r = c.from_residual-in_err-first in
+    let q = c.optional_effect.new.progress in
+    record {
+      exact = λ more are.
+          gives_err _ r.result h _ r.ensures.1
+          (for_body_stops c.args.result_type.now c.args.names.now c.args.place c.args.first.now c.args.condition.now c.args.third.now c.args.body.now c.args.out.now c.args.progress.now
+          c.optional_effect.new.out q c.in_ok-optional_effect.ensures.exact
+          c.optional_test.new.out c.optional_test.new.progress
+          (in_empty (λ l. appended l (optional_test c.args.names.now c.args.place c.args.condition.now q)) c.new-inner.result _ c.new-inner.ensures c.in_ok-optional_test.ensures.exact)
+          c.in_ok-second.second c.effect_behind.new.progress c.in_ok-second.ensures.exact
+          h (c.in_err-first.ensures.exact more are));
+      flags = λ more are. only_ok r.result _ _ r.ensures.1;
+      names = only_ok r.result _ _ r.ensures.1;
+    }
+
+pub for_loop-returns : goal.for_loop-returns
+for_loop-returns t c =
+    let q = c.optional_effect.new.progress in
+    record {
+      exact = λ more are.
+          for_goes c.args.result_type.now c.args.names.now c.args.place c.args.first.now c.args.condition.now c.args.third.now c.args.body.now c.args.out.now c.args.progress.now
+          c.optional_effect.new.out q c.in_ok-optional_effect.ensures.exact
+          c.optional_test.new.out c.optional_test.new.progress
+          (in_empty (λ l. appended l (optional_test c.args.names.now c.args.place c.args.condition.now q)) c.new-inner.result _ c.new-inner.ensures c.in_ok-optional_test.ensures.exact)
+          c.in_ok-second.second c.effect_behind.new.progress c.in_ok-second.ensures.exact
+          c.in_ok-first.first c.push_loop.new.out c.single.new.progress
+          (c.in_ok-first.ensures.exact more are) c.in_ok-push_loop.ensures;
+      flags = λ more are. c.in_ok-first.ensures.flags more are;
+      names = c.in_ok-first.ensures.names;
+    }

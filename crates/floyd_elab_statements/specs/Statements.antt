@@ -1,0 +1,107 @@
+-- Elaboration of statements.
+use Rattle.std.specs.Prelude.{not, List, [], ◌∷◌, ◌++◌, Option, Some, None}
+use Rattle.floyd_text.specs.declared.place.Place.{Place}
+use Rattle.floyd_ctypes.specs.declared.ctype.CType.{CType}
+use Rattle.floyd_cparse_trees.specs.declared.expressions.CExpr.{CExpr}
+use Rattle.floyd_cparse_trees.specs.declared.statements.BlockItem as i
+use Rattle.floyd_cparse_trees.specs.declared.statements.CStatement as c
+use Rattle.floyd_elab_names.specs.Refusals.{ill_typed}
+use Rattle.floyd_elab_names.specs.Doing.{◌>>=◌, ◌>>◌, pure, unless}
+use Rattle.floyd_elab_names.specs.Scopes.{Scopes}
+use Rattle.floyd_elab_names.specs.Types.{is_void}
+use Rattle.floyd_ctyping.specs.Operators as o
+use Rattle.floyd_elab_names.specs.Declarators.{base_type}
+use Rattle.floyd_ctyping.specs.Expressions.{tested}
+use Rattle.floyd_clight.specs.declared.syntax.Expr.{Expr}
+use Rattle.floyd_clight.specs.declared.syntax.Stmt as s
+use Rattle.floyd_clight.specs.declared.syntax.Stmt.{Stmt}
+use Rattle.floyd_elab_expressions.specs.Clight.{cast_into, test_of, sequence}
+use Rattle.floyd_elab_expressions.specs.Progress.{Elaborating, typing}
+use Rattle.floyd_elab_expressions.specs.Expressions.{valued}
+use Rattle.floyd_elab_effects.specs.Effects.{right_side, effect}
+use Rattle.floyd_elab_addresses.specs.Addresses.{in_items}
+use Rattle.floyd_elab_statements.specs.Locals.{nowhere, declarators}
+
+-- a test: the statements before it, and the test itself, which is ill typed at the word of its statement
+abbrev pub test : Scopes → Place → CExpr → Elaborating (List Stmt × Expr)
+test scopes place e = do
+  a ← valued scopes e
+  typing (tested place a.operand)
+  pure (a.before, test_of e a)
+
+-- the test of a loop, which breaks where it fails
+abbrev pub loop_test : Scopes → Place → CExpr → Elaborating (List Stmt)
+loop_test scopes place e = do
+  t ← test scopes place e
+  pure (t.0 ++ s.If t.1 s.Skip s.Break ∷ [])
+
+abbrev pub optional_test : Scopes → Place → Option CExpr → Elaborating (List Stmt)
+optional_test scopes place None = pure []
+optional_test scopes place (Some e) = loop_test scopes place e
+
+abbrev pub optional_effect : Scopes → Option CExpr → Elaborating (List Stmt)
+optional_effect scopes None = pure []
+optional_effect scopes (Some e) = effect scopes e
+
+-- `return` in a function of that result: a value where there is one, and none in a void function
+abbrev pub returned : Scopes → CType → Place → Option CExpr → Elaborating (List Stmt)
+returned scopes result place None = do
+  unless (ill_typed place) (is_void result)
+  pure (s.Return None ∷ [])
+returned scopes result place (Some e) = do
+  unless (ill_typed place) (not (is_void result))
+  a ← right_side scopes e
+  unless (ill_typed place) (o.fits_into result a.operand)
+  pure (a.before ++ s.Return (Some (cast_into result a)) ∷ [])
+
+-- `result` is that of the function. The numbers of reads are drawn in the order of the text.
+module _ (result : CType) where
+  abbrev mutual
+    pub statement : Scopes → c.CStatement → Elaborating (List Stmt)
+    statement scopes (c.Block' shape rows) = items ([] ∷ scopes) rows
+    statement scopes c.Empty = pure []
+    statement scopes (c.Effect e) = effect scopes e
+    statement scopes (c.If' place e p (c.more_of-CStatement a c.end_of-CStatement)) = do
+      t ← test scopes place e
+      first ← statement scopes a
+      pure (t.0 ++ s.If t.1 (sequence first) s.Skip ∷ [])
+    statement scopes (c.IfElse' place e p (c.more_of-CStatement a c.end_of-CStatement) q (c.more_of-CStatement b c.end_of-CStatement)) = do
+      t ← test scopes place e
+      first ← statement scopes a
+      second ← statement scopes b
+      pure (t.0 ++ s.If t.1 (sequence first) (sequence second) ∷ [])
+    statement scopes (c.While' place e p (c.more_of-CStatement body c.end_of-CStatement)) = do
+      t ← loop_test scopes place e
+      inner ← statement scopes body
+      pure (s.Loop (sequence (t ++ inner)) s.Skip ∷ [])
+    statement scopes (c.Do' p (c.more_of-CStatement body c.end_of-CStatement) place e) = do
+      inner ← statement scopes body
+      t ← loop_test scopes place e
+      pure (s.Loop (sequence inner) (sequence t) ∷ [])
+    statement scopes (c.For' place first e third p (c.more_of-CStatement body c.end_of-CStatement)) = do
+      before ← optional_effect scopes first
+      t ← optional_test scopes place e
+      behind ← optional_effect scopes third
+      inner ← statement scopes body
+      pure (before ++ s.Loop (sequence (t ++ inner)) (sequence behind) ∷ [])
+    statement scopes c.Break = pure (s.Break ∷ [])
+    statement scopes c.Continue = pure (s.Continue ∷ [])
+    statement scopes (c.Return place e) = returned scopes result place e
+
+    -- the items of a block, whose scope is the innermost one
+    pub items : {m : _} → Scopes → c.Row_of-BlockItem m → Elaborating (List Stmt)
+    items scopes c.end_of-BlockItem = pure []
+    items scopes (c.more_of-BlockItem (i.Declaration d) rest) = do
+      base ← typing (base_type scopes nowhere d.specifiers.base)
+      made ← declarators scopes base d.declarators (λ x. in_items x rest)
+      more ← items made.1 rest
+      pure (made.0 ++ more)
+    items scopes (c.more_of-BlockItem (i.Statement a) rest) = do
+      first ← statement scopes a
+      more ← items scopes rest
+      pure (first ++ more)
+
+  -- the body of a function, whose items stand in the scope of its parameters
+  abbrev pub body : Scopes → c.CStatement → Elaborating (List Stmt)
+  body scopes (c.Block' shape rows) = items scopes rows
+  body scopes a = statement scopes a

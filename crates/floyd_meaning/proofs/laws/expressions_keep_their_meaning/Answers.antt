@@ -1,5 +1,0 @@
-use Rattle.floyd_meaning.proofs.MeaningLaws.{expression_kept}
-use Rattle.floyd_meaning.proofs.laws.expressions_keep_their_meaning.Goals as goal
-
-pub returns : goal.returns
-returns c = expression_kept

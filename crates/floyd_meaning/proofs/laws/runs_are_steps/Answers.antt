@@ -1,5 +1,0 @@
-use Rattle.floyd_meaning.proofs.StepLemmas.{run_comes}
-use Rattle.floyd_meaning.proofs.laws.runs_are_steps.Goals as goal
-
-pub returns : goal.returns
-returns c = run_comes

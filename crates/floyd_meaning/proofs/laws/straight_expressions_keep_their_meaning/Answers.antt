@@ -1,5 +1,0 @@
-use Rattle.floyd_meaning.proofs.MeaningLaws.{straight_kept}
-use Rattle.floyd_meaning.proofs.laws.straight_expressions_keep_their_meaning.Goals as goal
-
-pub returns : goal.returns
-returns c = straight_kept

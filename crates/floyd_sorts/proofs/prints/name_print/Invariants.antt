@@ -1,6 +1,0 @@
-use Rattle.std.proofs.Common.{◌≡◌, drop}
-use Rattle.floyd_sorts.specs.Prints.{bytes_print, name_print}
-use Rattle.floyd_sorts.proofs.prints.name_print.Given as goal
-
-abbrev pub invariant-loop-byte : goal.invariant-loop-byte
-invariant-loop-byte l = bytes_print l.print (drop l.byte-index l.byte-items) ≡ name_print l.name

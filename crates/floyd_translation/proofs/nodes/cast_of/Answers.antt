@@ -1,5 +1,0 @@
-use Rattle.floyd_translation.proofs.NodeLemmas.{cast_made}
-use Rattle.floyd_translation.proofs.nodes.cast_of.Goals as goal
-
-pub returns : goal.returns
-returns c = cast_made _ _ _ c.in_ok-new.ensures

@@ -1,5 +1,0 @@
-use Rattle.floyd_translation.proofs.NodeLemmas.{deref_made}
-use Rattle.floyd_translation.proofs.nodes.deref_of.Goals as goal
-
-pub returns : goal.returns
-returns c = deref_made _ _ _ c.in_ok-new.ensures

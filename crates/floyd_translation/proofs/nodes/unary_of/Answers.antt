@@ -1,5 +1,0 @@
-use Rattle.floyd_translation.proofs.NodeLemmas.{unary_made}
-use Rattle.floyd_translation.proofs.nodes.unary_of.Goals as goal
-
-pub returns : goal.returns
-returns c = unary_made _ _ _ _ c.in_ok-new.ensures
