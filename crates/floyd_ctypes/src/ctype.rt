@@ -9,7 +9,6 @@ use std::alloc::{AllocError, Global};
 pub type TypeList = Items<CType>;
 
 /// A type of C. A struct is named by its tag, so that the types of two modules can be compared.
-#[derive(Drop)]
 pub enum CType {
     Void,
     Int(IntKind),
@@ -19,6 +18,22 @@ pub enum CType {
     Struct(Name),
     /// The types of the parameters, and of the result.
     Function(TypeList, Shared<CType>),
+}
+
+impl Drop for CType {
+    fn drop(self) {
+        match self {
+            CType::Void => {}
+            CType::Int(_) => {}
+            CType::Pointer(ctype) => drop(ctype),
+            CType::Array(ctype, _) => drop(ctype),
+            CType::Struct(name) => drop(name),
+            CType::Function(types, ctype) => {
+                drop(types);
+                drop(ctype);
+            }
+        }
+    }
 }
 
 impl CType {

@@ -3,13 +3,23 @@ ghost use Rattle.std.specs.Prelude.{◌≡◌};
 use std::alloc::{AllocError, AllocFailed};
 
 /// Why a struct was not completed.
-#[derive(Debug, Drop)]
+#[derive(Debug)]
 pub enum DefineStop {
     /// It is complete.
     Again,
     /// The type of a field has no size.
     Incomplete,
     Memory,
+}
+
+impl Drop for DefineStop {
+    fn drop(self) {
+        match self {
+            DefineStop::Again => {}
+            DefineStop::Incomplete => {}
+            DefineStop::Memory => {}
+        }
+    }
 }
 
 impl From<AllocError> for DefineStop {

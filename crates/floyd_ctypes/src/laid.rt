@@ -11,9 +11,21 @@ pub(crate) struct FieldPlace {
 }
 
 /// A complete struct: its fields, how it lies in memory, and the place of the first field of each name.
-#[derive(Drop)]
 pub(crate) struct Laid {
     pub(crate) fields: FieldList,
     pub(crate) layout: Layout,
     pub(crate) places: IndexMap<Name, FieldPlace>,
+}
+
+impl Drop for Laid {
+    fn drop(self) {
+        let Laid {
+            fields,
+            layout,
+            places,
+        } = self;
+        drop(fields);
+        drop(layout);
+        drop(places);
+    }
 }

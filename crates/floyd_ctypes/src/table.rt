@@ -18,10 +18,17 @@ use std::alloc::{AllocError, Global};
 use std::marker::Model;
 
 /// The structs of a program by tag, in the order in which their tags were first seen.
-#[derive(Drop)]
 pub struct StructTable {
     structs: IndexMap<Name, Option<Shared<Laid>>>,
     alloc: Global,
+}
+
+impl Drop for StructTable {
+    fn drop(self) {
+        let StructTable { structs, alloc } = self;
+        drop(structs);
+        drop(alloc);
+    }
 }
 
 impl Model for StructTable {

@@ -1,6 +1,9 @@
 pub mod Calls
+pub mod Codes
+pub mod Commands
 pub mod formers
 pub mod Gives
 pub mod Outside
 pub mod Place
+pub mod Refusals
 pub mod Stand

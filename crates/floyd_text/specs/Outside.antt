@@ -80,3 +80,7 @@ Appends old new bytes = new ≡ option_map (λ written. written ++ bytes) old
 -- where the sink tells, a front of the bytes was put at the end of what was written
 abbrev pub AppendsFront : Option (List ℕ) → Option (List ℕ) → List ℕ → Type 0
 AppendsFront old new bytes = (n : ℕ) × Appends old new (take n bytes)
+
+-- a file is read if it has no more bytes than this
+abbrev pub max_file : ℕ
+max_file = 4194304

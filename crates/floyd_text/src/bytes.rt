@@ -4,9 +4,16 @@ use std::alloc::{AllocError, Global};
 use std::marker::Model;
 
 /// Bytes of a file or of a text, which contracts see as their list.
-#[derive(Debug, Drop)]
+#[derive(Debug)]
 pub struct Bytes {
     bytes: Vec<u8>,
+}
+
+impl Drop for Bytes {
+    fn drop(self) {
+        let Bytes { bytes } = self;
+        drop(bytes);
+    }
 }
 
 impl Model for Bytes {

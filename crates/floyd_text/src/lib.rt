@@ -4,6 +4,7 @@
 
 mod bytes;
 mod call_count;
+mod code;
 mod mem_shelf;
 mod mem_sink;
 mod name;
@@ -12,6 +13,7 @@ mod outside;
 mod place;
 mod reading;
 mod refusal;
+mod rule;
 mod shared;
 mod steps;
 mod stored;
@@ -19,6 +21,7 @@ mod sure;
 mod writing;
 
 pub use bytes::Bytes;
+pub use code::{Code, Giver};
 pub use mem_shelf::MemShelf;
 pub use mem_sink::MemSink;
 pub use name::Name;
@@ -26,7 +29,8 @@ pub use named_file::NamedFile;
 pub use outside::{Found, Shelf, ShelfFault, Sink, SinkFault};
 pub use place::{Place, place_of};
 pub use reading::{MAX_FILE, ReadStop, read_file};
-pub use refusal::{Halt, No, Refusal, Rule, RuleStop, Shown};
+pub use refusal::{Halt, No, Refusal, RuleStop, Shown};
+pub use rule::Rule;
 pub use shared::Shared;
 pub use steps::Steps;
 pub use sure::{SureShelf, SureSink};

@@ -7,9 +7,16 @@ use std::rc::Rc;
 
 /// A name of a program, a specification or a file, which contracts see as the list of its bytes. It is shared and
 /// not copied.
-#[derive(Debug, Drop)]
+#[derive(Debug)]
 pub struct Name {
     bytes: Rc<Vec<u8>>,
+}
+
+impl Drop for Name {
+    fn drop(self) {
+        let Name { bytes } = self;
+        drop(bytes);
+    }
 }
 
 impl Model for Name {

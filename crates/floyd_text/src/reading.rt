@@ -1,5 +1,5 @@
 ghost use Rattle.std.specs.Prelude.{◌≡◌, ◌+◌, ◌<◌, ◌≤◌, ◌⊎◌, length, IfOk, IfErr, OnOk};
-ghost use Rattle.floyd_text.specs.Outside.{HasFile, HasNone, HasLonger, HasFront, Rose};
+ghost use Rattle.floyd_text.specs.Outside.{HasFile, HasNone, HasLonger, HasFront, Rose, max_file};
 
 use crate::bytes::Bytes;
 use crate::outside::{Found, Shelf, ShelfFault};
@@ -47,9 +47,9 @@ impl From<ShelfFault> for ReadStop {
 #[tactic(auto, using(crate::proofs::OutsideLemmas::has_longer, crate::proofs::OutsideLemmas::has_start))]
 pub fn read_file<H: Shelf>(alloc: Global, shelf: &mut H, name: &str) -> Result<Bytes, ReadStop>
     ensures bytes { IfOk result (HasFile (H.held shelf.old) name.now) }
-    ensures limit { IfOk result (λ bytes. length bytes ≤ MAX_FILE) }
+    ensures limit { IfOk result (λ bytes. length bytes ≤ max_file) }
     ensures missing { result ≡ Err ReadStop.Missing → HasNone (H.held shelf.old) name.now }
-    ensures too_large { result ≡ Err ReadStop.TooLarge → HasLonger (H.held shelf.old) name.now MAX_FILE }
+    ensures too_large { result ≡ Err ReadStop.TooLarge → HasLonger (H.held shelf.old) name.now max_file }
     ensures fault { result ≡ Err ReadStop.Fault → Rose (H.faults shelf.old) (H.faults shelf.new) }
 
     ensures held { H.held shelf.new ≡ H.held shelf.old }

@@ -1,11 +1,14 @@
 ghost use Rattle.std.specs.Prelude.{◌≡◌};
+ghost use Rattle.floyd_text.specs.Refusals.{refusal_at, refusal_in};
 
+use crate::code::Code;
 use crate::name::Name;
 use crate::place::Place;
+use crate::rule::Rule;
 use std::alloc::{AllocError, AllocFailed};
 
 /// What a refusal shows besides its code and place.
-#[derive(Debug, Drop)]
+#[derive(Debug)]
 pub enum Shown {
     Nothing,
     Count(u64),
@@ -16,82 +19,117 @@ pub enum Shown {
     Hypothesis(u32),
 }
 
-/// What was going on when a refusal was met: a file was read, or a command of a script was tried.
-#[derive(Clone, Copy, PartialEq, Eq, Debug)]
-pub enum Rule {
-    Reading,
-    Forward,
-    ForwardIf,
-    ForwardWhile,
-    ForwardLoop,
-    ForwardCall,
-    ForwardCallPtr,
-    UseSpec,
-    Intros,
-    Exists,
-    Cancel,
-    Weaken,
-    Unfold,
-    Fold,
-    Facts,
-    Valid,
-    Apply,
-    Induction,
-    ApplyIh,
-    SplitArray,
-    JoinArray,
-    SplitStruct,
-    JoinStruct,
-    Reroot,
-    Law,
-    Rewrite,
-    Cut,
-    Destruct,
-    Specialize,
-    Mp,
-    UnfoldFun,
-    Discriminate,
-    Inject,
-    Refl,
-    Trivial,
-    Intro,
-    Left,
-    Right,
-    Split,
-    Simpl,
-    Lia,
+impl Drop for Shown {
+    fn drop(self) {
+        match self {
+            Shown::Nothing => {}
+            Shown::Count(_) => {}
+            Shown::Name(name) => drop(name),
+            Shown::Part(_) => {}
+            Shown::Hypothesis(_) => {}
+        }
+    }
 }
 
 /// A refusal: its code, the rule that was tried, its place, the number of the goal it was met at (0 for none), and what
 /// it shows.
-#[derive(Debug, Drop)]
+#[derive(Debug)]
 pub struct Refusal {
-    pub code: u16,
+    pub code: Code,
     pub rule: Rule,
     pub place: Place,
     pub goal: u32,
     pub shown: Shown,
 }
 
+impl Refusal {
+    /// The refusal of a file that is read, or of files that are joined.
+    pub fn at(code: Code, place: Place, shown: Shown) -> Refusal
+        ensures { result ≡ refusal_at code place shown }
+    {
+        Refusal {
+            code,
+            rule: Rule::Reading,
+            place,
+            goal: 0,
+            shown,
+        }
+    }
+}
+
+impl Drop for Refusal {
+    fn drop(self) {
+        let Refusal {
+            code: _,
+            rule: _,
+            place: _,
+            goal: _,
+            shown,
+        } = self;
+        drop(shown);
+    }
+}
+
 /// A refusal, or want of memory, which no clause ties to anything.
-#[derive(Debug, Drop)]
+#[derive(Debug)]
 pub enum Halt {
     Refused(Refusal),
     Memory,
 }
 
+impl Drop for Halt {
+    fn drop(self) {
+        match self {
+            Halt::Refused(refusal) => drop(refusal),
+            Halt::Memory => {}
+        }
+    }
+}
+
 /// A refusal of a rule, which does not know its own place.
-#[derive(Debug, Drop)]
+#[derive(Debug)]
 pub struct No {
-    pub code: u16,
+    pub code: Code,
     pub shown: Shown,
 }
 
+impl No {
+    /// The same of this command, at its place, and at the goal of this number.
+    pub fn of(self, rule: Rule, place: Place, goal: u32) -> Refusal
+        ensures { result ≡ refusal_in rule place goal self }
+    {
+        let No { code, shown } = self;
+        Refusal {
+            code,
+            rule,
+            place,
+            goal,
+            shown,
+        }
+    }
+}
+
+impl Drop for No {
+    fn drop(self) {
+        let No { code: _, shown } = self;
+        drop(shown);
+    }
+}
+
 /// A refusal of a rule, or want of memory.
-#[derive(Debug, Drop)]
+#[derive(Debug)]
 pub enum RuleStop {
     No(No),
     Memory,
+}
+
+impl Drop for RuleStop {
+    fn drop(self) {
+        match self {
+            RuleStop::No(no) => drop(no),
+            RuleStop::Memory => {}
+        }
+    }
 }
 
 impl From<AllocError> for Halt {

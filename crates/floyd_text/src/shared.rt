@@ -5,7 +5,6 @@ use std::marker::Model;
 use std::rc::Rc;
 
 /// An `Rc` that contracts see as its value, so that trees of it are plain data.
-#[derive(Drop)]
 pub struct Shared<T> {
     inner: Rc<T>,
 }
@@ -23,6 +22,13 @@ impl<T> Shared<T> {
         ensures { result.now ≡ self.now }
     {
         &self.inner
+    }
+}
+
+impl<T: Drop> Drop for Shared<T> {
+    fn drop(self) {
+        let Shared { inner } = self;
+        drop(inner);
     }
 }
 
