@@ -1,7 +1,4 @@
--- The Clight machine.
+-- The syntax of Clight.
 pub mod Types
-pub mod Integers
-pub mod Evaluation
-pub mod Machine
 pub mod Flat
 pub mod Words

@@ -5,7 +5,7 @@ use Rattle.floyd_clight.specs.declared.syntax.Expr.{Expr, Const, Temp, Var, Dere
 abbrev pub type_of : Expr → CType
 type_of (Const v t) = t
 type_of (Temp x t) = t
-type_of (Var x t) = t
+type_of (Var binding x t) = t
 type_of (Deref' p e t) = t
 type_of (AddrOf' p e t) = t
 type_of (Unary' op p e t) = t

@@ -1,11 +1,11 @@
 -- What a goal shows of its next statement.
 use Rattle.std.specs.Prelude.{ℕ, List, [], ◌∷◌, Option, Some, None}
-use Rattle.floyd_clight.specs.declared.syntax.Stmt.{Stmt, Skip, Set, Assign, Call, Seq', If', Loop', Break, Continue, Return, Row_of-Stmt, end_of-Stmt, more_of-Stmt}
+use Rattle.floyd_clight.specs.declared.syntax.Stmt.{Stmt, Skip, Set, Assign, Call, Seq', If', Loop', Break, Continue, Return, Switch', Row_of-Stmt, end_of-Stmt, more_of-Stmt}
 use Rattle.floyd_clight.specs.declared.word.Word as w
 
 pub data Shown : Type 0 where
   SetTo : (x : List ℕ) → Shown
-  Store Calls Branches Loops Breaks Continues Returns Ends : Shown
+  Store Calls Branches Loops Switches Breaks Continues Returns Ends : Shown
 
 -- a word, by the name that it lends
 abbrev pub word_seen : w.Word → Shown
@@ -14,6 +14,7 @@ word_seen w.TheVariants.Store = Store
 word_seen w.TheVariants.Call = Calls
 word_seen w.TheVariants.If = Branches
 word_seen w.TheVariants.Loop = Loops
+word_seen w.TheVariants.Switch = Switches
 word_seen w.TheVariants.Break = Breaks
 word_seen w.TheVariants.Continue = Continues
 word_seen w.TheVariants.Return = Returns
@@ -37,6 +38,7 @@ abbrev mutual
   first_word Break = Some Breaks
   first_word Continue = Some Continues
   first_word (Return e) = Some Returns
+  first_word (Switch' e shape cases) = Some Switches
 
   pub first_in : {n : _} → Row_of-Stmt n → Option Shown
   first_in end_of-Stmt = None

@@ -3,7 +3,6 @@ use floyd_text::Name;
 use sqlite_items::Items;
 
 /// The contents of a variable, or of a part of it, at the start.
-#[derive(Drop)]
 pub enum Initial {
     /// Nothing is written: zeros, and pointers that are null.
     Absent,
@@ -17,6 +16,19 @@ pub enum Initial {
     /// Of an array its elements, of a struct its fields in order. The last ones may be left out, and then nothing is
     /// written of them.
     Parts(InitialList),
+}
+
+impl Drop for Initial {
+    fn drop(self) {
+        match self {
+            Initial::Absent => {}
+            Initial::Int(_, _) => {}
+            Initial::Null => {}
+            Initial::Address(name) => drop(name),
+            Initial::Element(name, _) => drop(name),
+            Initial::Parts(initials) => drop(initials),
+        }
+    }
 }
 
 /// Contents in order.

@@ -1,4 +1,4 @@
-//! Clight, in which expressions have no effects: its syntax. Its machine stands in the definitions.
+//! Clight, in which expressions have no effects: its syntax.
 #![tactic(auto)]
 
 mod flatten;
@@ -9,7 +9,7 @@ mod word;
 
 pub use flatten::flat;
 pub use initial::{Initial, InitialList};
-pub use syntax::{Expr, ExprList, Stmt, StmtList, UnaryOp};
+pub use syntax::{Binding, Case, CaseList, Expr, ExprList, Stmt, StmtList, UnaryOp};
 pub use unit::{
     BlockList, ClightUnit, Declared, DeclaredList, Defined, DefinedList, Local, LocalList,
     StructDef, StructList, Variable, VariableList,

@@ -1,6 +1,6 @@
 ghost use Rattle.std.specs.Prelude.{◌≡◌, IfOk};
 ghost use Rattle.floyd_clight.specs.Types.{type_of};
-ghost use Rattle.floyd_clight.specs.declared.syntax.Stmt.{Set, Assign, Call, If, Loop};
+ghost use Rattle.floyd_clight.specs.declared.syntax.Stmt.{Set, Assign, Call, If, Loop, Switch};
 
 use floyd_ctypes::CType;
 use floyd_int::{IntOp, Value};
@@ -16,14 +16,22 @@ pub enum UnaryOp {
     Not,
 }
 
+/// What a name with a place stands for.
+#[derive(Clone, Copy, PartialEq, Eq, Debug)]
+pub enum Binding {
+    /// A local variable that has a block of its own.
+    Block,
+    /// A variable or a function of the file.
+    File,
+}
+
 /// An expression, with its type last. It has no effects.
-#[derive(Drop)]
 pub enum Expr {
     Const(Value, CType),
     /// A variable without a place in memory.
     Temp(Name, CType),
-    /// A variable with a place in memory, or a function.
-    Var(Name, CType),
+    /// A variable with a place in memory, or a function. A local one and one of the file may have the same name.
+    Var(Binding, Name, CType),
     Deref(Shared<Expr>, CType),
     AddrOf(Shared<Expr>, CType),
     Unary(UnaryOp, Shared<Expr>, CType),
@@ -34,11 +42,57 @@ pub enum Expr {
     SizeOf(CType, CType),
 }
 
+impl Drop for Expr {
+    fn drop(self) {
+        match self {
+            Expr::Const(_, ctype) => drop(ctype),
+            Expr::Temp(name, ctype) => {
+                drop(name);
+                drop(ctype);
+            }
+            Expr::Var(_, name, ctype) => {
+                drop(name);
+                drop(ctype);
+            }
+            Expr::Deref(expression, ctype) => {
+                drop(expression);
+                drop(ctype);
+            }
+            Expr::AddrOf(expression, ctype) => {
+                drop(expression);
+                drop(ctype);
+            }
+            Expr::Unary(_, expression, ctype) => {
+                drop(expression);
+                drop(ctype);
+            }
+            Expr::Binary(_, first, second, third) => {
+                drop(first);
+                drop(second);
+                drop(third);
+            }
+            Expr::Cast(expression, ctype) => {
+                drop(expression);
+                drop(ctype);
+            }
+            Expr::Field(expression, name, ctype) => {
+                drop(expression);
+                drop(name);
+                drop(ctype);
+            }
+            Expr::SizeOf(first, second) => {
+                drop(first);
+                drop(second);
+            }
+        }
+    }
+}
+
 /// Expressions in order, as the arguments of a call.
 pub type ExprList = Items<Expr>;
 
 /// A statement.
-#[derive(Drop)]
+#[cycle(statement)]
 pub enum Stmt {
     Skip,
     /// Sets a temporary.
@@ -55,10 +109,69 @@ pub enum Stmt {
     Break,
     Continue,
     Return(Option<Expr>),
+    /// Runs the bodies from the case on whose label the value has, or from the default.
+    Switch(Expr, CaseList),
+}
+
+impl Drop for Stmt {
+    #[cycle(drop)]
+    fn drop(self) {
+        match self {
+            Stmt::Skip => {}
+            Stmt::Set(name, expression) => {
+                drop(name);
+                drop(expression);
+            }
+            Stmt::Assign(first, second) => {
+                drop(first);
+                drop(second);
+            }
+            Stmt::Call(name, expression, expressions) => {
+                drop(name);
+                drop(expression);
+                drop(expressions);
+            }
+            Stmt::Seq(statements) => drop(statements),
+            Stmt::If(first, second, third) => {
+                drop(first);
+                drop(second);
+                drop(third);
+            }
+            Stmt::Loop(first, second) => {
+                drop(first);
+                drop(second);
+            }
+            Stmt::Break => {}
+            Stmt::Continue => {}
+            Stmt::Return(expression) => drop(expression),
+            Stmt::Switch(expression, cases) => {
+                drop(expression);
+                drop(cases);
+            }
+        }
+    }
 }
 
 /// Statements in order.
 pub type StmtList = Items<Stmt>;
+
+/// A case of a switch. Its label is held in the low bits at the kind of the switch's expression; the default has none.
+#[cycle(statement)]
+pub struct Case {
+    pub label: Option<u64>,
+    pub body: Shared<Stmt>,
+}
+
+impl Drop for Case {
+    #[cycle(drop)]
+    fn drop(self) {
+        let Case { label: _, body } = self;
+        drop(body);
+    }
+}
+
+/// Cases in the order of the text.
+pub type CaseList = Items<Case>;
 
 impl Expr {
     /// The type of its value.
@@ -68,7 +181,7 @@ impl Expr {
         match self {
             Expr::Const(_, t) => t,
             Expr::Temp(_, t) => t,
-            Expr::Var(_, t) => t,
+            Expr::Var(_, _, t) => t,
             Expr::Deref(_, t) => t,
             Expr::AddrOf(_, t) => t,
             Expr::Unary(_, _, t) => t,
@@ -86,7 +199,7 @@ impl Expr {
         Ok(match self {
             Expr::Const(value, t) => Expr::Const(*value, t.share(alloc)?),
             Expr::Temp(name, t) => Expr::Temp(name.share()?, t.share(alloc)?),
-            Expr::Var(name, t) => Expr::Var(name.share()?, t.share(alloc)?),
+            Expr::Var(binding, name, t) => { Expr::Var(*binding, name.share()?, t.share(alloc)?) },
             Expr::Deref(e, t) => Expr::Deref(e.share()?, t.share(alloc)?),
             Expr::AddrOf(e, t) => Expr::AddrOf(e.share()?, t.share(alloc)?),
             Expr::Unary(op, e, t) => Expr::Unary(*op, e.share()?, t.share(alloc)?),
@@ -117,6 +230,7 @@ impl Stmt {
             Stmt::Break => Ok(Stmt::Break),
             Stmt::Continue => Ok(Stmt::Continue),
             Stmt::Return(e) => Ok(Stmt::Return(share_value(alloc, e)?)),
+            Stmt::Switch(e, cases) => share_switch(alloc, e, cases),
         }
     }
 }
@@ -186,6 +300,27 @@ fn share_loop(first: &Shared<Stmt>, second: &Shared<Stmt>) -> Result<Stmt, Alloc
 {
     let (first, second) = share_both(first, second)?;
     Ok(Stmt::Loop(first, second))
+}
+
+fn share_switch(alloc: Global, e: &Expr, cases: &CaseList) -> Result<Stmt, AllocError>
+    ensures { IfOk result (λ s. s ≡ Switch e.now cases.now) }
+{
+    let e = e.share(alloc)?;
+    Ok(Stmt::Switch(e, share_cases(alloc, cases.as_slice())?))
+}
+
+/// The same cases. Their bodies are shared and not copied.
+fn share_cases(alloc: Global, cases: &[Case]) -> Result<CaseList, AllocError>
+    ensures { IfOk result (λ all. all ≡ cases.now) }
+{
+    let mut all = Items::new(alloc);
+    'cases: for case in cases {
+        all.push(Case {
+            label: case.label,
+            body: case.body.share()?,
+        })?;
+    }
+    Ok(all)
 }
 
 /// The same name, if there is one.

@@ -5,17 +5,27 @@ use floyd_text::{Name, Place};
 use sqlite_items::Items;
 
 /// A struct that is complete.
-#[derive(Drop)]
 pub struct StructDef {
     pub tag: Name,
     pub place: Place,
     pub fields: FieldList,
 }
 
+impl Drop for StructDef {
+    fn drop(self) {
+        let StructDef {
+            tag,
+            place: _,
+            fields,
+        } = self;
+        drop(tag);
+        drop(fields);
+    }
+}
+
 pub type StructList = Items<StructDef>;
 
 /// A global variable.
-#[derive(Drop)]
 pub struct Variable {
     pub name: Name,
     pub place: Place,
@@ -24,10 +34,23 @@ pub struct Variable {
     pub contents: Option<Initial>,
 }
 
+impl Drop for Variable {
+    fn drop(self) {
+        let Variable {
+            name,
+            place: _,
+            ctype,
+            contents,
+        } = self;
+        drop(name);
+        drop(ctype);
+        drop(contents);
+    }
+}
+
 pub type VariableList = Items<Variable>;
 
 /// A function that is declared, by a definition too.
-#[derive(Drop)]
 pub struct Declared {
     pub name: Name,
     pub place: Place,
@@ -35,13 +58,34 @@ pub struct Declared {
     pub result: CType,
 }
 
+impl Drop for Declared {
+    fn drop(self) {
+        let Declared {
+            name,
+            place: _,
+            parameters,
+            result,
+        } = self;
+        drop(name);
+        drop(parameters);
+        drop(result);
+    }
+}
+
 pub type DeclaredList = Items<Declared>;
 
 /// A variable of a function.
-#[derive(Drop)]
 pub struct Local {
     pub name: Name,
     pub ctype: CType,
+}
+
+impl Drop for Local {
+    fn drop(self) {
+        let Local { name, ctype } = self;
+        drop(name);
+        drop(ctype);
+    }
 }
 
 pub type LocalList = Items<Local>;
@@ -50,7 +94,6 @@ pub type LocalList = Items<Local>;
 pub type BlockList = Items<Local>;
 
 /// A function with a body.
-#[derive(Drop)]
 pub struct Defined {
     pub name: Name,
     pub place: Place,
@@ -63,10 +106,29 @@ pub struct Defined {
     pub body: Stmt,
 }
 
+impl Drop for Defined {
+    fn drop(self) {
+        let Defined {
+            name,
+            place: _,
+            result,
+            parameters,
+            blocks,
+            temporaries,
+            body,
+        } = self;
+        drop(name);
+        drop(result);
+        drop(parameters);
+        drop(blocks);
+        drop(temporaries);
+        drop(body);
+    }
+}
+
 pub type DefinedList = Items<Defined>;
 
 /// What a source stands for. Each place is that of the name.
-#[derive(Drop)]
 pub struct ClightUnit {
     /// In the order in which they are completed.
     pub structs: StructList,
@@ -76,4 +138,19 @@ pub struct ClightUnit {
     pub declared: DeclaredList,
     /// Those with a body, in the order of their definitions.
     pub defined: DefinedList,
+}
+
+impl Drop for ClightUnit {
+    fn drop(self) {
+        let ClightUnit {
+            structs,
+            variables,
+            declared,
+            defined,
+        } = self;
+        drop(structs);
+        drop(variables);
+        drop(declared);
+        drop(defined);
+    }
 }

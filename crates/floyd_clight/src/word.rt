@@ -12,6 +12,7 @@ pub enum Word<'a> {
     Call,
     If,
     Loop,
+    Switch,
     Break,
     Continue,
     Return,
@@ -58,5 +59,6 @@ fn first_word(s: &Stmt) -> Option<Word<'_>>
         Stmt::Break => Some(Word::Break),
         Stmt::Continue => Some(Word::Continue),
         Stmt::Return(_) => Some(Word::Return),
+        Stmt::Switch(_, _) => Some(Word::Switch),
     }
 }

@@ -1,2 +1,6 @@
-//! The memory of the Clight machine: definitions alone, which no code runs.
+//! The memory of the Clight machine: definitions and their laws, which no code runs.
 #![tactic(auto)]
+
+mod laws;
+
+pub use laws::{blocks_through_changes, freeable_blocks};

@@ -1,64 +1,68 @@
 -- From safety to runs: no state is stuck, and each call that returns meets its postcondition.
-use Rattle.std.proofs.Common.{◌≡◌, ℕ, zero, suc, inl, inr, List, [], ◌∷◌, ◌++◌, length, None, refl, sym, subst, ap, arith}
+use Rattle.std.proofs.Common.{◌≡◌, ℕ, zero, suc, inl, inr, List, [], ◌∷◌, ◌++◌, length, None, refl, subst, ap, arith, Some, true, ◌∙◌, sym}
 use Rattle.std.proofs.lemmas.List.{length-append}
 use Rattle.floyd_int.specs.declared.kinds.Value.{Value}
-use Rattle.floyd_int.specs.declared.kinds.Value.TheVariants.{Vint}
+use Rattle.floyd_int.specs.declared.kinds.Value.TheVariants.{Vundef, Vint, Vlong, Vptr}
+use Rattle.floyd_int.specs.declared.kinds.IntKind.TheVariants.{I32}
+use Rattle.floyd_ctypes.specs.declared.ctype.CType.{Int}
+use Rattle.floyd_ctypes.specs.Has.{has}
 use Rattle.floyd_clight_memory.specs.Memory.{Mem}
 use Rattle.floyd_clight.specs.declared.syntax.Stmt.{Stmt}
-use Rattle.floyd_clight.specs.Evaluation.{Ident}
-use Rattle.floyd_clight.specs.Machine.{Act, Config, Run, Calling, Returning, Frame, Kont, Outcome, Next, Asks, Ended, Stuck, step}
-use Rattle.floyd_assert.specs.Heaplet.{Heaplet, Joins, Fits}
-use Rattle.floyd_assert.specs.Data.{Env}
-use Rattle.floyd_clight_runs.specs.World.{World}
-use Rattle.floyd_clight_runs.specs.Runs.{Answer, run, run_on, AllLawful, lawful_on, Goes, NoneStuck, FirstReturn, CallMeets, CallsMeet}
-use Rattle.floyd_clight_runs.specs.Safe.{Returned, Exits, Whole, exit_of, Safe, StepsTo, Bounds, CallExits}
-use Rattle.floyd_clight_runs.proofs.HeapLaws.{part}
-use Rattle.floyd_clight_runs.proofs.Under.{IsCall, under, over, step_under, bounds_under, call_kont_is}
-use Rattle.floyd_clight_runs.proofs.Bounded.{Good, GoodOutcome, step_good, answer_keeps}
-use Rattle.floyd_clight_runs.proofs.Induction.{AllHold, all_keep}
+use Rattle.floyd_clight_machine.specs.Looking.{Ident}
+use Rattle.floyd_clight_machine.specs.Machine.{FunctionBlock, signature, function_named, Answer, Act, Config, Run, Calling, Returning, Frame, Kont, Outcome, Next, Asks, Ended, Stuck, step}
+use Rattle.floyd_clight_machine.specs.Exits.{Returned, Whole, exit_of, IsCall, IsProper, under, over}
+use Rattle.floyd_clight_machine.specs.Bounds.{Bounds, KeepsBounds}
+use Rattle.floyd_clight_machine.proofs.Under.{step_under, bounds_under, call_kont_is}
+use Rattle.floyd_clight_machine.proofs.Bounded.{step_keeps, answer_keeps}
+use Rattle.floyd_clight_heap.specs.Heaplet.{Heaplet, Joins, Fits}
+use Rattle.floyd_clight_heap.proofs.Sums.{part, right_empty}
+use Rattle.floyd_clight_runs.specs.World.{World, is_result}
+use Rattle.floyd_clight_runs.specs.Runs.{run, run_on, AllLawful, lawful_on, IsNumber, Goes, NoneStuck, FirstReturn, CallMeets, CallsMeet}
+use Rattle.floyd_clight_runs.specs.Starts.{IsSound}
+use Rattle.floyd_clight_runs.specs.Safe.{Exits, Safe, StepsTo}
+use Rattle.floyd_clight_runs.specs.Calls.{CallExits, AllHold}
+use Rattle.floyd_clight_runs.proofs.Induction.{all_keep}
+
+-- the bounds hold, and calls and returns stand where they should
+abbrev pub Good : World → Config → Mem → Type 0
+Good W c m = Bounds W.program c m × IsProper c
 
 -- a run may end at this exit
 abbrev pub EndsWell : Exits → Type 0
-EndsWell E = (v : Value) (h : Heaplet) → E (Returned v) h → (n : ℕ) × (v ≡ Vint n)
+EndsWell E = (v : Value) (h : Heaplet) → E (Returned v) h → IsNumber v
 
 goes_on : (W : World) (P : Config → Heaplet → Type 0) (h F k : Heaplet) (m : Mem) (o : Outcome) → Joins h F k → Fits k m → StepsTo W P h F m o → Goes W m o
 goes_on W P h F k m (Next c n) j t s = tt
 goes_on W P h F k m (Asks f args r) j t s = let may = s.0 in (may.0, may.1, part may.3 (part j t), may.4)
-goes_on W P h F k m (Ended v) j t s = tt
+goes_on W P h F k m (Ended v) j t s = absurd s
 goes_on W P h F k m Stuck j t s = s
 
-ends : (W : World) (m : Mem) (v : Value) → (n : ℕ) × (v ≡ Vint n) → Goes W m (step W.program (Returning v []) m)
-ends W m v e = subst (λ u. Goes W m (step W.program (Returning u []) m)) (sym e.1) tt
-
-goes : (W : World) (n : ℕ) (c : Config) (h F k : Heaplet) (m : Mem) (E : Exits) → EndsWell E → Safe W Whole (suc n) c h E → Joins h F k → Fits k m → Bounds c m → Goes W m (step W.program c m)
+goes : (W : World) (n : ℕ) (c : Config) (h F k : Heaplet) (m : Mem) (E : Exits) → EndsWell E → Safe W Whole (suc n) c h E → Joins h F k → Fits k m → Bounds W.program c m → Goes W m (step W.program c m)
 goes W n (Run s [] act) h F k m E w s' j t b = goes_on W (λ d g. Safe W Whole n d g E) h F k m (step W.program (Run s [] act) m) j t (s' F k m j t b).steps
 goes W n (Run s (f ∷ r) act) h F k m E w s' j t b = goes_on W (λ d g. Safe W Whole n d g E) h F k m (step W.program (Run s (f ∷ r) act) m) j t (s' F k m j t b).steps
 goes W n (Calling f args r) h F k m E w s' j t b = goes_on W (λ d g. Safe W Whole n d g E) h F k m (step W.program (Calling f args r) m) j t (s' F k m j t b).steps
-goes W n (Returning v []) h F k m E w s' j t b = ends W m v (w v h s')
+goes W n (Returning v []) h F k m E w s' j t b = w v h s'
 goes W n (Returning v (f ∷ r)) h F k m E w s' j t b = goes_on W (λ d g. Safe W Whole n d g E) h F k m (step W.program (Returning v (f ∷ r)) m) j t (s' F k m j t b).steps
 
 -- what is claimed of the run of n steps from a safe configuration
 abbrev NoneStuckFrom : World → ℕ → Exits → Type 0
-NoneStuckFrom W n E = (c : Config) (h F k : Heaplet) (m : Mem) (answers : List Answer) → Safe W Whole (suc n) c h E → Joins h F k → Fits k m → Good c m → AllLawful W n answers c m → NoneStuck W (run W n answers c m)
+NoneStuckFrom W n E = (c : Config) (h F k : Heaplet) (m : Mem) (answers : List Answer) → Safe W Whole (suc n) c h E → Joins h F k → Fits k m → Good W c m → AllLawful W n answers c m → NoneStuck W (run W n answers c m)
 
-none_stuck_on : (W : World) (n : ℕ) (h F : Heaplet) (m : Mem) (answers : List Answer) (E : Exits) (o : Outcome) → NoneStuckFrom W n E → StepsTo W (λ d g. Safe W Whole (suc n) d g E) h F m o → GoodOutcome m o → lawful_on W (AllLawful W n) answers m o → NoneStuck W (run_on (run W n) answers o)
+none_stuck_on : (W : World) (n : ℕ) (h F : Heaplet) (m : Mem) (answers : List Answer) (E : Exits) (o : Outcome) → NoneStuckFrom W n E → StepsTo W (λ d g. Safe W Whole (suc n) d g E) h F m o → KeepsBounds W.program m o → lawful_on W (AllLawful W n) answers m o → NoneStuck W (run_on (run W n) answers o)
 none_stuck_on W n h F m answers E (Next d q) f s g l = f d s.0 F s.1 q answers s.4 s.2 s.3 g l
 none_stuck_on W n h F m [] E (Asks i args r) f s g l = tt
 none_stuck_on W n h F m (a ∷ answers) E (Asks i args r) f s g l =
     let t = s.1 a.value a.mem l.0 in
-    f (Returning a.value r) t.0 F t.1 a.mem answers t.4 t.2 t.3 (answer_keeps m a.mem _ l.0.keeps g.0, g.1) l.1
+    f (Returning a.value r) t.0 F t.1 a.mem answers t.4 t.2 t.3 (answer_keeps W.program _ m a.mem l.0.keeps g.0, g.1) l.1
 none_stuck_on W n h F m answers E (Ended v) f s g l = tt
 none_stuck_on W n h F m answers E Stuck f s g l = tt
 
-none_stuck_end : (W : World) (n : ℕ) (m : Mem) (answers : List Answer) (v : Value) → (i : ℕ) × (v ≡ Vint i) → NoneStuck W (run_on (run W n) answers (step W.program (Returning v []) m))
-none_stuck_end W n m answers v e = subst (λ u. NoneStuck W (run_on (run W n) answers (step W.program (Returning u []) m))) (sym e.1) tt
-
-none_stuck_next : (W : World) (n : ℕ) (c : Config) (h F k : Heaplet) (m : Mem) (answers : List Answer) (E : Exits) → EndsWell E → NoneStuckFrom W n E → Safe W Whole (suc (suc n)) c h E → Joins h F k → Fits k m → Good c m → lawful_on W (AllLawful W n) answers m (step W.program c m) → NoneStuck W (run_on (run W n) answers (step W.program c m))
-none_stuck_next W n (Run s [] act) h F k m answers E w f s' j t g l = none_stuck_on W n h F m answers E (step W.program (Run s [] act) m) f (s' F k m j t g.0).steps (step_good W.program (Run s [] act) m g) l
-none_stuck_next W n (Run s (i ∷ r) act) h F k m answers E w f s' j t g l = none_stuck_on W n h F m answers E (step W.program (Run s (i ∷ r) act) m) f (s' F k m j t g.0).steps (step_good W.program (Run s (i ∷ r) act) m g) l
-none_stuck_next W n (Calling i args r) h F k m answers E w f s' j t g l = none_stuck_on W n h F m answers E (step W.program (Calling i args r) m) f (s' F k m j t g.0).steps (step_good W.program (Calling i args r) m g) l
-none_stuck_next W n (Returning v []) h F k m answers E w f s' j t g l = none_stuck_end W n m answers v (w v h s')
-none_stuck_next W n (Returning v (i ∷ r)) h F k m answers E w f s' j t g l = none_stuck_on W n h F m answers E (step W.program (Returning v (i ∷ r)) m) f (s' F k m j t g.0).steps (step_good W.program (Returning v (i ∷ r)) m g) l
+none_stuck_next : (W : World) (n : ℕ) (c : Config) (h F k : Heaplet) (m : Mem) (answers : List Answer) (E : Exits) → EndsWell E → NoneStuckFrom W n E → Safe W Whole (suc (suc n)) c h E → Joins h F k → Fits k m → Good W c m → lawful_on W (AllLawful W n) answers m (step W.program c m) → NoneStuck W (run_on (run W n) answers (step W.program c m))
+none_stuck_next W n (Run s [] act) h F k m answers E w f s' j t g l = none_stuck_on W n h F m answers E (step W.program (Run s [] act) m) f (s' F k m j t g.0).steps (step_keeps W.program (Run s [] act) m g.0) l
+none_stuck_next W n (Run s (i ∷ r) act) h F k m answers E w f s' j t g l = none_stuck_on W n h F m answers E (step W.program (Run s (i ∷ r) act) m) f (s' F k m j t g.0).steps (step_keeps W.program (Run s (i ∷ r) act) m g.0) l
+none_stuck_next W n (Calling i args r) h F k m answers E w f s' j t g l = none_stuck_on W n h F m answers E (step W.program (Calling i args r) m) f (s' F k m j t g.0).steps (step_keeps W.program (Calling i args r) m g.0) l
+none_stuck_next W n (Returning v []) h F k m answers E w f s' j t g l = tt
+none_stuck_next W n (Returning v (i ∷ r)) h F k m answers E w f s' j t g l = none_stuck_on W n h F m answers E (step W.program (Returning v (i ∷ r)) m) f (s' F k m j t g.0).steps (step_keeps W.program (Returning v (i ∷ r)) m g.0) l
 
 none_stuck : (W : World) (n : ℕ) (E : Exits) → EndsWell E → NoneStuckFrom W n E
 none_stuck W zero E w c h F k m answers s j t g l = (goes W zero c h F k m E w s j t g.0, tt)
@@ -93,32 +97,32 @@ here W n (Returning w (f ∷ i)) r h F k m E v q s' j t e p = absurd (longer f i
 
 -- the claim of a walk along a run of n steps to the first return
 abbrev WalksTo : World → ℕ → Kont → Exits → Value → Mem → Type 0
-WalksTo W n r E v q = (c : Config) (h F k : Heaplet) (m : Mem) (answers : List Answer) → Safe W Whole (suc n) c h E → Joins h F k → Fits k m → Good (under r c) m → AllLawful W n answers (under r c) m → FirstReturn r (run W n answers (under r c) m) v q → Lies E F v q
+WalksTo W n r E v q = (c : Config) (h F k : Heaplet) (m : Mem) (answers : List Answer) → Safe W Whole (suc n) c h E → Joins h F k → Fits k m → Good W (under r c) m → AllLawful W n answers (under r c) m → FirstReturn r (run W n answers (under r c) m) v q → Lies E F v q
 
-walk_on : (W : World) (n : ℕ) (r : Kont) (h F : Heaplet) (m : Mem) (answers : List Answer) (E : Exits) (v : Value) (q : Mem) (o : Outcome) → WalksTo W n r E v q → StepsTo W (λ d g. Safe W Whole (suc n) d g E) h F m o → GoodOutcome m (over r o) → lawful_on W (AllLawful W n) answers m (over r o) → FirstReturn r (run_on (run W n) answers (over r o)) v q → Lies E F v q
+walk_on : (W : World) (n : ℕ) (r : Kont) (h F : Heaplet) (m : Mem) (answers : List Answer) (E : Exits) (v : Value) (q : Mem) (o : Outcome) → WalksTo W n r E v q → StepsTo W (λ d g. Safe W Whole (suc n) d g E) h F m o → KeepsBounds W.program m (over r o) → lawful_on W (AllLawful W n) answers m (over r o) → FirstReturn r (run_on (run W n) answers (over r o)) v q → Lies E F v q
 walk_on W n r h F m answers E v q (Next d p) f s g l x = f d s.0 F s.1 p answers s.4 s.2 s.3 g l x
 walk_on W n r h F m [] E v q (Asks i args u) f s g l x = absurd x
 walk_on W n r h F m (a ∷ answers) E v q (Asks i args u) f s g l x =
     let t = s.1 a.value a.mem l.0 in
-    f (Returning a.value u) t.0 F t.1 a.mem answers t.4 t.2 t.3 (answer_keeps m a.mem _ l.0.keeps g.0, g.1) l.1 x
+    f (Returning a.value u) t.0 F t.1 a.mem answers t.4 t.2 t.3 (answer_keeps W.program _ m a.mem l.0.keeps g.0, g.1) l.1 x
 walk_on W n r h F m answers E v q (Ended w) f s g l x = absurd x
 walk_on W n r h F m answers E v q Stuck f s g l x = absurd x
 
-walk_step : (W : World) (n : ℕ) (c : Config) (r : Kont) (h F k : Heaplet) (m : Mem) (answers : List Answer) (E : Exits) (v : Value) (q : Mem) → IsCall r → exit_of Whole c ≡ None → WalksTo W n r E v q → StepsTo W (λ d g. Safe W Whole (suc n) d g E) h F m (step W.program c m) → Good (under r c) m → lawful_on W (AllLawful W n) answers m (step W.program (under r c) m) → FirstReturn r (run_on (run W n) answers (step W.program (under r c) m)) v q → Lies E F v q
+walk_step : (W : World) (n : ℕ) (c : Config) (r : Kont) (h F k : Heaplet) (m : Mem) (answers : List Answer) (E : Exits) (v : Value) (q : Mem) → IsCall r → exit_of Whole c ≡ None → WalksTo W n r E v q → StepsTo W (λ d g. Safe W Whole (suc n) d g E) h F m (step W.program c m) → Good W (under r c) m → lawful_on W (AllLawful W n) answers m (step W.program (under r c) m) → FirstReturn r (run_on (run W n) answers (step W.program (under r c) m)) v q → Lies E F v q
 walk_step W n c r h F k m answers E v q u e f s g l x =
     let is = step_under W.program Whole c r m u e in
     walk_on W n r h F m answers E v q (step W.program c m) f s
-    (subst (GoodOutcome m) is (step_good W.program (under r c) m g))
+    (subst (KeepsBounds W.program m) is (step_keeps W.program (under r c) m g.0))
     (subst (lawful_on W (AllLawful W n) answers m) is l)
     (subst (λ o. FirstReturn r (run_on (run W n) answers o) v q) is x)
 
 -- beyond a state that is no return to r
-beyond : (W : World) (n : ℕ) (c : Config) (r : Kont) (h F k : Heaplet) (m : Mem) (answers : List Answer) (E : Exits) (v : Value) (q : Mem) → IsCall r → WalksTo W n r E v q → Safe W Whole (suc (suc n)) c h E → Joins h F k → Fits k m → Good (under r c) m → lawful_on W (AllLawful W n) answers m (step W.program (under r c) m) → ((w : Value) → under r c ≡ Returning w r → ⊥) → FirstReturn r (run_on (run W n) answers (step W.program (under r c) m)) v q → Lies E F v q
-beyond W n (Run s [] act) r h F k m answers E v q u f s' j t g l other x = walk_step W n (Run s [] act) r h F k m answers E v q u refl f (s' F k m j t (bounds_under r (Run s [] act) m g.0)).steps g l x
-beyond W n (Run s (i ∷ a) act) r h F k m answers E v q u f s' j t g l other x = walk_step W n (Run s (i ∷ a) act) r h F k m answers E v q u refl f (s' F k m j t (bounds_under r (Run s (i ∷ a) act) m g.0)).steps g l x
-beyond W n (Calling i args a) r h F k m answers E v q u f s' j t g l other x = walk_step W n (Calling i args a) r h F k m answers E v q u refl f (s' F k m j t (bounds_under r (Calling i args a) m g.0)).steps g l x
+beyond : (W : World) (n : ℕ) (c : Config) (r : Kont) (h F k : Heaplet) (m : Mem) (answers : List Answer) (E : Exits) (v : Value) (q : Mem) → IsCall r → WalksTo W n r E v q → Safe W Whole (suc (suc n)) c h E → Joins h F k → Fits k m → Good W (under r c) m → lawful_on W (AllLawful W n) answers m (step W.program (under r c) m) → ((w : Value) → under r c ≡ Returning w r → ⊥) → FirstReturn r (run_on (run W n) answers (step W.program (under r c) m)) v q → Lies E F v q
+beyond W n (Run s [] act) r h F k m answers E v q u f s' j t g l other x = walk_step W n (Run s [] act) r h F k m answers E v q u refl f (s' F k m j t (bounds_under W.program r (Run s [] act) m g.0)).steps g l x
+beyond W n (Run s (i ∷ a) act) r h F k m answers E v q u f s' j t g l other x = walk_step W n (Run s (i ∷ a) act) r h F k m answers E v q u refl f (s' F k m j t (bounds_under W.program r (Run s (i ∷ a) act) m g.0)).steps g l x
+beyond W n (Calling i args a) r h F k m answers E v q u f s' j t g l other x = walk_step W n (Calling i args a) r h F k m answers E v q u refl f (s' F k m j t (bounds_under W.program r (Calling i args a) m g.0)).steps g l x
 beyond W n (Returning w []) r h F k m answers E v q u f s' j t g l other x = absurd (other w (ap (Returning w) (call_kont_is r u)))
-beyond W n (Returning w (i ∷ a)) r h F k m answers E v q u f s' j t g l other x = walk_step W n (Returning w (i ∷ a)) r h F k m answers E v q u refl f (s' F k m j t (bounds_under r (Returning w (i ∷ a)) m g.0)).steps g l x
+beyond W n (Returning w (i ∷ a)) r h F k m answers E v q u f s' j t g l other x = walk_step W n (Returning w (i ∷ a)) r h F k m answers E v q u refl f (s' F k m j t (bounds_under W.program r (Returning w (i ∷ a)) m g.0)).steps g l x
 
 walk : (W : World) (n : ℕ) (r : Kont) (E : Exits) (v : Value) (q : Mem) → IsCall r → WalksTo W n r E v q
 walk W zero r E v q u c h F k m answers s j t g l (inl x) = here W zero c r h F k m E v q s j t x.0 x.1
@@ -127,13 +131,13 @@ walk W (suc n) r E v q u c h F k m answers s j t g l (inl x) = here W (suc n) c 
 walk W (suc n) r E v q u c h F k m answers s j t g l (inr x) = beyond W n c r h F k m answers E v q u (walk W n r E v q u) s j t g l x.0 x.1
 
 -- a call among the states keeps its specification
-call_meets : (W : World) → AllHold W → (n : ℕ) (f : Ident) (args : List Value) (r : Kont) (m : Mem) (answers : List Answer) → Good (Calling f args r) m → AllLawful W (suc n) answers (Calling f args r) m → CallMeets W (Calling f args r) m (run_on (run W n) answers (step W.program (Calling f args r) m))
+call_meets : (W : World) → AllHold W → (n : ℕ) (f : Ident) (args : List Value) (r : Kont) (m : Mem) (answers : List Answer) → Good W (Calling f args r) m → AllLawful W (suc n) answers (Calling f args r) m → CallMeets W (Calling f args r) m (run_on (run W n) answers (step W.program (Calling f args r) m))
 call_meets W a n f args r m answers g l = λ v q x y h F k j t p.
     let s = all_keep W a (suc (suc (suc n))) (suc (suc n)) (omega arith) f y args h p in
-    let r' = walk W (suc n) r (CallExits W f y) v q g.1 (Calling f args []) h F k m answers s j t g l (inr ((λ w e. call_not_returning e), x)) in
+    let r' = walk W (suc n) r (CallExits W.program W.own f y) v q g.1 (Calling f args []) h F k m answers s j t g l (inr ((λ w e. call_not_returning e), x)) in
     (r'.0, r'.1, r'.2.1, r'.3, r'.4)
 
-each_meets : (W : World) → AllHold W → (n : ℕ) (c : Config) (m : Mem) (answers : List Answer) → Good c m → AllLawful W (suc n) answers c m → CallMeets W c m (run_on (run W n) answers (step W.program c m))
+each_meets : (W : World) → AllHold W → (n : ℕ) (c : Config) (m : Mem) (answers : List Answer) → Good W c m → AllLawful W (suc n) answers c m → CallMeets W c m (run_on (run W n) answers (step W.program c m))
 each_meets W a n (Run s k act) m answers g l = tt
 each_meets W a n (Calling f args r) m answers g l = call_meets W a n f args r m answers g l
 each_meets W a n (Returning v k) m answers g l = tt
@@ -144,25 +148,41 @@ last_meets W (Calling f args r) m = λ v q x. absurd x
 last_meets W (Returning v k) m = tt
 
 abbrev CallsMeetFrom : World → ℕ → Type 0
-CallsMeetFrom W n = (answers : List Answer) (c : Config) (m : Mem) → Good c m → AllLawful W n answers c m → CallsMeet W (run W n answers c m)
+CallsMeetFrom W n = (answers : List Answer) (c : Config) (m : Mem) → Good W c m → AllLawful W n answers c m → CallsMeet W (run W n answers c m)
 
-calls_meet_on : (W : World) (n : ℕ) (answers : List Answer) (m : Mem) (o : Outcome) → CallsMeetFrom W n → GoodOutcome m o → lawful_on W (AllLawful W n) answers m o → CallsMeet W (run_on (run W n) answers o)
+calls_meet_on : (W : World) (n : ℕ) (answers : List Answer) (m : Mem) (o : Outcome) → CallsMeetFrom W n → KeepsBounds W.program m o → lawful_on W (AllLawful W n) answers m o → CallsMeet W (run_on (run W n) answers o)
 calls_meet_on W n answers m (Next d q) f g l = f answers d q g l
 calls_meet_on W n [] m (Asks i args r) f g l = tt
-calls_meet_on W n (a ∷ answers) m (Asks i args r) f g l = f answers (Returning a.value r) a.mem (answer_keeps m a.mem _ l.0.keeps g.0, g.1) l.1
+calls_meet_on W n (a ∷ answers) m (Asks i args r) f g l = f answers (Returning a.value r) a.mem (answer_keeps W.program _ m a.mem l.0.keeps g.0, g.1) l.1
 calls_meet_on W n answers m (Ended v) f g l = tt
 calls_meet_on W n answers m Stuck f g l = tt
 
 calls_meet : (W : World) → AllHold W → (n : ℕ) → CallsMeetFrom W n
 calls_meet W a zero answers c m g l = (last_meets W c m, tt)
 calls_meet W a (suc n) answers c m g l =
-    (each_meets W a n c m answers g l, calls_meet_on W n answers m (step W.program c m) (calls_meet W a n) (step_good W.program c m g) l)
+    (each_meets W a n c m answers g l, calls_meet_on W n answers m (step W.program c m) (calls_meet W a n) (step_keeps W.program c m g.0) l)
 
 -- where every body holds, a run from a call of main is sound
-pub sound_run : (W : World) (main : Ident) (m : Mem) → AllHold W → (x : Env) (h F k : Heaplet) → W.pre main x [] h → Joins h F k → Fits k m → EndsWell (CallExits W main x)
+pub sound_run : (W : World) (main : Ident) (m : Mem) → AllHold W → (x : W.own.With) (h F k : Heaplet) → W.own.pre main x [] h → Joins h F k → Fits k m → EndsWell (CallExits W.program W.own main x) → Bounds W.program (Calling main [] []) m
     → (n : ℕ) (answers : List Answer) → AllLawful W n answers (Calling main [] []) m
     → NoneStuck W (run W n answers (Calling main [] []) m) × CallsMeet W (run W n answers (Calling main [] []) m)
-sound_run W main m a x h F k p j t w n answers l = (
-  none_stuck W n (CallExits W main x) w (Calling main [] []) h F k m answers (all_keep W a (suc (suc n)) (suc n) (omega arith) main x [] h p) j t (tt, tt) l,
-  calls_meet W a n answers (Calling main [] []) m (tt, tt) l,
+sound_run W main m a x h F k p j t w b n answers l = (
+  none_stuck W n (CallExits W.program W.own main x) w (Calling main [] []) h F k m answers (all_keep W a (suc (suc n)) (suc n) (omega arith) main x [] h p) j t (b, tt) l,
+  calls_meet W a n answers (Calling main [] []) m (b, tt) l,
 )
+
+-- a program is sound where every body holds and main gives numbers
+pub sound : (W : World) (main : Ident) → AllHold W → ((x : W.own.With) → EndsWell (CallExits W.program W.own main x)) → IsSound W main
+sound W main a w m s n answers l =
+    sound_run W main m a s.with s.heaplet _ s.heaplet s.pre (right_empty s.heaplet) s.fits (w s.with)
+    (record { locals = tt; variables = s.variables; functions = s.functions }) n answers l
+
+number_from : (v : Value) → has (Int I32) v ≡ true → IsNumber v
+number_from Vundef e = cc
+number_from (Vint n) e = tt
+number_from (Vlong n) e = cc
+number_from (Vptr b o) e = cc
+
+-- a function that gives an int ends a run with a number
+pub int_ends_well : (W : World) (f : Ident) (g : FunctionBlock) (x : W.own.With) → function_named W.program f ≡ Some g → (signature g.def).result ≡ Int I32 → EndsWell (CallExits W.program W.own f x)
+int_ends_well W f g x e r v h p = number_from v (sym (ap (λ t. has t v) r) ∙ sym (ap (λ o. is_result o v) e) ∙ p.0)

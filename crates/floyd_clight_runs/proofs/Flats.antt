@@ -2,14 +2,22 @@
 use Rattle.std.proofs.Common.{ℕ, List, [], ◌∷◌, ◌++◌, refl}
 use mathlib.Core.Former.{arity, this}
 use Rattle.sqlite_items.specs.formers.items.Items.{the_former}
-use Rattle.floyd_clight.specs.declared.syntax.Stmt.{Stmt, Skip, Set, Assign, Call, Seq', If', Loop', Break, Continue, Return, Row_of-Stmt, end_of-Stmt, more_of-Stmt}
+use Rattle.floyd_clight.specs.declared.syntax.Stmt.{Stmt, Skip, Set, Assign, Call, Seq', If', Loop', Break, Continue, Return, Switch', Row_of-Stmt, end_of-Stmt, more_of-Stmt}
 use Rattle.floyd_clight.specs.Flat.{flat, flats}
-use Rattle.floyd_clight.specs.Machine.{Act, Run, Kseq}
-use Rattle.floyd_assert.specs.Heaplet.{Heaplet}
+use Rattle.floyd_clight_machine.specs.Machine.{Act, Run, Kseq}
+use Rattle.floyd_clight_machine.specs.Exits.{Exit, Normal, Broke, Continued, Returned, Part, resume}
+use Rattle.floyd_clight_heap.specs.Heaplet.{Heaplet}
 use Rattle.floyd_clight_runs.specs.World.{World}
-use Rattle.floyd_clight_runs.specs.Safe.{Exit, Normal, Broke, Continued, Returned, Exits, Part, Safe, with_normal, SafeAll}
-use Rattle.floyd_clight_runs.proofs.Under.{resume}
-use Rattle.floyd_clight_runs.proofs.Safety.{conseq, bind, done, broke, continued, returned, quiet, same_exits}
+use Rattle.floyd_clight_runs.specs.Safe.{Exits, Safe}
+use Rattle.floyd_clight_runs.specs.Calls.{with_normal, SafeAll}
+use Rattle.floyd_clight_runs.proofs.Safety.{conseq, bind, done, broke, continued, returned, quiet}
+
+-- with the normal exit as it was, exits are as they were
+pub same_exits : (E : Exits) (x : Exit) (h : Heaplet) → with_normal (λ act g. E (Normal act) g) E x h → E x h
+same_exits E (Normal act) h p = p
+same_exits E (Broke act) h p = p
+same_exits E (Continued act) h p = p
+same_exits E (Returned v) h p = p
 
 more : (W : World) (n : ℕ) (a b : List Stmt) (E : Exits) → ((act : Act) (h : Heaplet) → SafeAll W n (a ++ b) E act h → SafeAll W n a (with_normal (SafeAll W n b E) E) act h) → (x : Exit) (g : Heaplet) → with_normal (SafeAll W n (a ++ b) E) E x g → with_normal (SafeAll W n a (with_normal (SafeAll W n b E) E)) (with_normal (SafeAll W n b E) E) x g
 more W n a b E f (Normal act) g p = f act g p
@@ -74,6 +82,7 @@ mutual
   flat_safe W n Break E act h p = one_safe W n Break E act h p
   flat_safe W n Continue E act h p = one_safe W n Continue E act h p
   flat_safe W n (Return e) E act h p = one_safe W n (Return e) E act h p
+  flat_safe W n (Switch' e shape cases) E act h p = one_safe W n (Switch' e shape cases) E act h p
 
   all_flat_safe : {c : _} → (W : World) (n : ℕ) (row : Row_of-Stmt c) → AllFlatSafe W n row
   all_flat_safe W n end_of-Stmt = tt

@@ -1,8 +1,10 @@
-pub mod HeapLaws
-pub mod Under
+pub mod Frames
 pub mod Safety
+pub mod Blocks
+pub mod Evaluated
 pub mod Flats
-pub mod Bounded
-pub mod Steps
+pub mod Returns
 pub mod Induction
 pub mod Adequate
+pub mod Rows
+pub mod SampleLaws

@@ -1,14 +1,26 @@
 -- The laws of safety: fewer steps, consequence, frame, bind, and steps that touch no memory.
-use Rattle.std.proofs.Common.{◌≡◌, ℕ, zero, suc, [], Option, Some, None, refl, sym, subst}
+use Rattle.std.proofs.Common.{◌≡◌, ℕ, zero, suc, List, [], ◌∷◌, Option, Some, None, refl, sym, subst}
 use Rattle.floyd_int.specs.declared.kinds.Value.{Value}
 use Rattle.floyd_clight_memory.specs.Memory.{Mem}
 use Rattle.floyd_clight.specs.declared.syntax.Stmt.{Skip, Break, Continue}
-use Rattle.floyd_clight.specs.Machine.{Act, Config, Run, Returning, Kont, Outcome, Next, Asks, Ended, Stuck, step, reads, writes}
-use Rattle.floyd_assert.specs.Heaplet.{Heaplet, Joins}
+use Rattle.floyd_clight_machine.specs.Looking.{Spot}
+use Rattle.floyd_clight_machine.specs.Machine.{Act, Config, Run, Returning, Kont, Outcome, Next, Asks, Ended, Stuck, step}
+use Rattle.floyd_clight_machine.specs.Touched.{reads, writes}
+use Rattle.floyd_clight_machine.specs.Exits.{Exit, Normal, Broke, Continued, Returned, Level, Part, exit_of, Suits, under, over, resume}
+use Rattle.floyd_clight_machine.proofs.Under.{exit_under, step_under, reads_under, writes_under, bounds_under}
+use Rattle.floyd_clight_heap.specs.Heaplet.{Heaplet, Joins}
+use Rattle.floyd_clight_heap.proofs.Sums.{assoc, assoc_back, within_more, owned_more}
 use Rattle.floyd_clight_runs.specs.World.{World}
-use Rattle.floyd_clight_runs.specs.Safe.{Exit, Normal, Broke, Continued, Returned, Exits, Level, Part, exit_of, AllWithin, AllOwned, Lands, StepsTo, Now, Safe, with_normal}
-use Rattle.floyd_clight_runs.proofs.HeapLaws.{assoc, assoc_back, all_within_more, all_owned_more}
-use Rattle.floyd_clight_runs.proofs.Under.{Suits, SuitsPart, suits, under, over, resume, exit_under, no_exit_under, step_under, writes_under, bounds_under}
+use Rattle.floyd_clight_runs.specs.Safe.{Exits, AllWithin, AllOwned, Lands, StepsTo, Now, Safe}
+use Rattle.floyd_clight_runs.proofs.Frames.{SuitsPart, suits, no_exit_under}
+
+pub all_within_more : {a b k : Heaplet} → Joins a b k → (ss : List Spot) → AllWithin a ss → AllWithin k ss
+all_within_more j [] w = tt
+all_within_more j (s ∷ ss) w = (within_more j w.0, all_within_more j ss w.1)
+
+pub all_owned_more : {a b k : Heaplet} → Joins a b k → (ss : List Spot) → AllOwned a ss → AllOwned k ss
+all_owned_more j [] w = tt
+all_owned_more j (s ∷ ss) w = (owned_more j w.0, all_owned_more j ss w.1)
 
 abbrev Reach : Type 1
 Reach = Config → Heaplet → Type 0
@@ -63,8 +75,8 @@ now_beside W P Q c h G hG E None f j s = λ F k m i t b.
     let a = s r.0 k m r.2 t b in
     record {
       steps = steps_beside W P Q h G hG F r.0 m (step W.program c m) f j r.1 a.steps;
-      reads = all_within_more j (reads c m) a.reads;
-      writes = all_owned_more j (writes c m) a.writes;
+      reads = all_within_more j (reads W.program c m) a.reads;
+      writes = all_owned_more j (writes W.program c m) a.writes;
     }
 
 -- the frame
@@ -84,11 +96,11 @@ bind_now : (W : World) (l j : Level) (P Q : Reach) (c : Config) (h : Heaplet) (E
 bind_now W l j P Q c h E E' r u t f g (Some x) eq s = subst (λ d. Now W Q d h E' (exit_of j d)) (sym (exit_under l c r x eq)) (g x h s)
 bind_now W l j P Q c h E E' r u t f g None eq s =
     subst (Now W Q (under r c) h E') (sym (no_exit_under l j c r u eq)) (λ F k m i fit b.
-    let a = s F k m i fit (bounds_under r c m b) in
+    let a = s F k m i fit (bounds_under W.program r c m b) in
     record {
       steps = subst (StepsTo W Q h F m) (sym (step_under W.program l c r m t eq)) (steps_over W P Q r h F m (step W.program c m) f a.steps);
-      reads = a.reads;
-      writes = subst (AllOwned h) (sym (writes_under l c r m t eq)) a.writes;
+      reads = subst (AllWithin h) (sym (reads_under W.program c r m)) a.reads;
+      writes = subst (AllOwned h) (sym (writes_under W.program l c r m t eq)) a.writes;
     })
 
 -- on from the exits, under further frames
@@ -120,8 +132,8 @@ returned W l (suc n) v h E p = p
 -- a step that touches no memory
 pub record Quiet (W : World) (c d : Config) : Type 0 where
   pub steps : (m : Mem) → step W.program c m ≡ Next d m
-  pub reads : (m : Mem) → reads c m ≡ []
-  pub writes : (m : Mem) → writes c m ≡ []
+  pub reads : (m : Mem) → reads W.program c m ≡ []
+  pub writes : (m : Mem) → writes W.program c m ≡ []
 
 pub quiet_step : (W : World) (l : Level) (n : ℕ) (c d : Config) (h : Heaplet) (E : Exits) → exit_of l c ≡ None → Quiet W c d → Safe W l n d h E → Safe W l (suc n) c h E
 quiet_step W l n c d h E e q s =
@@ -134,10 +146,3 @@ quiet_step W l n c d h E e q s =
 pub quiet : (W : World) (l : Level) (n : ℕ) (c d : Config) (h : Heaplet) (E : Exits) → exit_of l c ≡ None → Quiet W c d → Safe W l n d h E → Safe W l n c h E
 quiet W l zero c d h E e q s = tt
 quiet W l (suc n) c d h E e q s = quiet_step W l n c d h E e q (one_less W l n d h E s)
-
--- with the normal exit as it was, exits are as they were
-pub same_exits : (E : Exits) (x : Exit) (h : Heaplet) → with_normal (λ act g. E (Normal act) g) E x h → E x h
-same_exits E (Normal act) h p = p
-same_exits E (Broke act) h p = p
-same_exits E (Continued act) h p = p
-same_exits E (Returned v) h p = p

@@ -1,6 +1,10 @@
--- The linked program, its runs, and what it means that it is sound.
+-- Runs of programs, and safety.
 pub mod World
-pub mod Linked
 pub mod Runs
-pub mod Sound
+pub mod Starts
+pub mod Seen
 pub mod Safe
+pub mod Calls
+pub mod Needs
+pub mod Sample
+pub mod Laws

@@ -1,57 +1,27 @@
 -- Runs of a program, in which external functions give the answers of a list.
-use Rattle.std.specs.Prelude.{◌≡◌, ℕ, zero, suc, ◌≤◌, Bool, true, false, ◌⊎◌, List, [], ◌∷◌, map, Option, Some, None}
+use Rattle.std.specs.Prelude.{◌≡◌, ℕ, zero, suc, true, ◌⊎◌, List, [], ◌∷◌}
 use Rattle.floyd_int.specs.declared.kinds.Value.{Value}
-use Rattle.floyd_clight_memory.specs.Memory.{Mem, Block, Slot, Kind, Global, Local, Ext as ExtKind, Function, Perm, nth, next}
-use Rattle.floyd_ctypes.specs.Has.{has}
-use Rattle.floyd_clight.specs.Evaluation.{Ident}
-use Rattle.floyd_clight.specs.Machine.{Config, Run, Calling, Returning, Kont, Outcome, Next, Asks, Ended, Stuck, Def, Own, Ext, step}
-use Rattle.floyd_assert.specs.Heaplet.{Heaplet, Joins, Fits}
-use Rattle.floyd_assert.specs.Data.{Env}
-use Rattle.floyd_clight_runs.specs.World.{World}
+use Rattle.floyd_int.specs.declared.kinds.Value.TheVariants.{Vundef, Vint, Vlong, Vptr}
+use Rattle.floyd_clight_memory.specs.Memory.{Mem, IsMemory}
+use Rattle.floyd_clight_machine.specs.Looking.{Ident}
+use Rattle.floyd_clight_machine.specs.Machine.{Answer, Config, Run, Calling, Returning, Kont, Outcome, Next, Asks, Ended, Stuck, step}
+use Rattle.floyd_clight_machine.specs.Bounds.{Keeps}
+use Rattle.floyd_clight_heap.specs.Heaplet.{Heaplet, Joins, Fits}
+use Rattle.floyd_clight_runs.specs.World.{World, has_result}
 
--- the value is one of the function's result type
-abbrev pub has_result : Option Def → Value → Bool
-has_result None v = false
-has_result (Some (Own fn)) v = has fn.result v
-has_result (Some (Ext result)) v = has result v
-
--- A call in memory m that gives v in memory n keeps the specification: for all WITH values, and each heaplet h that meets
--- the precondition beside any F, some heaplet meets the postcondition, and F is untouched.
+-- A call in memory m that gives v in memory n keeps the function's specification: for all WITH values, and each heaplet h
+-- that meets the precondition beside any F, some heaplet meets the postcondition beside the same F.
 abbrev pub Meets : World → Ident → List Value → Mem → Value → Mem → Type 0
 Meets W f args m v n =
-    (x : Env) (h F k : Heaplet) → Joins h F k → Fits k m → W.pre f x args h
-    → (h' : Heaplet) × (k' : Heaplet) × W.post f x v h' × Joins h' F k' × Fits k' n
-
-abbrev pub is_ext : Kind → Bool
-is_ext Global = false
-is_ext Local = false
-is_ext ExtKind = true
-is_ext Function = false
-
-abbrev pub perms : List Slot → List (Option Perm)
-perms slots = map (λ (s : Slot). s.perm) slots
-
--- both are of one kind and one size, with the same permissions
-pub record Alike (b c : Block) : Type 0 where
-  pub kind : c.kind ≡ b.kind
-  pub perms : perms c.slots ≡ perms b.slots
-
--- all blocks but those of external functions keep kind, size and permissions, and no other block is of their kinds
-pub record Keeps (m n : Mem) : Type 0 where
-  pub kept : (block : ℕ) (b : Block) → nth m block ≡ Some b → is_ext b.kind ≡ false → (c : Block) × (nth n block ≡ Some c) × Alike b c
-  pub no_other : (block : ℕ) (c : Block) → nth n block ≡ Some c → is_ext c.kind ≡ false → (b : Block) × (nth m block ≡ Some b) × Alike b c
-  pub later : next m ≤ next n
+    (x : W.own.With) (h F k : Heaplet) → Joins h F k → Fits k m → W.own.pre f x args h
+    → (h' : Heaplet) × (k' : Heaplet) × W.own.post f x v h' × Joins h' F k' × Fits k' n
 
 -- the external f may answer a call in m with v and the memory n
 pub record IsLawful (W : World) (f : Ident) (args : List Value) (m : Mem) (v : Value) (n : Mem) : Type 0 where
   pub meets : Meets W f args m v n
   pub keeps : Keeps m n
-  pub fits : has_result (W.program.functions f) v ≡ true
-
--- an answer of an external function
-pub record Answer : Type 0 where
-  pub value : Value
-  pub mem : Mem
+  pub memory : IsMemory n
+  pub typed : has_result W.program f v ≡ true
 
 pub record State : Type 0 where
   pub config : Config
@@ -81,11 +51,18 @@ abbrev pub AllLawful : World → ℕ → List Answer → Config → Mem → Type
 AllLawful W zero answers c m = Unit {0}
 AllLawful W (suc n) answers c m = lawful_on W (AllLawful W n) answers m (step W.program c m)
 
+-- a run ends with a number
+abbrev pub IsNumber : Value → Type 0
+IsNumber Vundef = ⊥
+IsNumber (Vint n) = Unit {0}
+IsNumber (Vlong n) = ⊥
+IsNumber (Vptr block offset) = ⊥
+
 -- it goes on, has ended, or waits for an external function that was called in its precondition
 abbrev pub Goes : World → Mem → Outcome → Type 0
 Goes W m (Next c n) = Unit {0}
-Goes W m (Asks f args k) = (x : Env) × (h : Heaplet) × Fits h m × W.pre f x args h
-Goes W m (Ended v) = Unit {0}
+Goes W m (Asks f args k) = (x : W.own.With) × (h : Heaplet) × Fits h m × W.own.pre f x args h
+Goes W m (Ended v) = IsNumber v
 Goes W m Stuck = ⊥
 
 abbrev pub NoneStuck : World → List State → Type 0

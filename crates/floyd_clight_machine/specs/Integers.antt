@@ -1,5 +1,5 @@
 -- Operators and casts on the values of integers. A number of up to 32 bits is a Vint, and one of 64 bits a Vlong.
-use Rattle.std.specs.Prelude.{ℕ, ◌-◌, ◌^◌, Option, Some, None, option_map, option_and_then, if◌then◌else◌, bit_xor}
+use Rattle.std.specs.Prelude.{ℕ, ℤ, ◌-◌, ◌^◌, Option, Some, None, option_map, option_and_then, if◌then◌else◌, bit_xor}
 use Rattle.floyd_int.specs.declared.kinds.IntKind.{IntKind}
 use Rattle.floyd_int.specs.declared.kinds.IntKind.TheVariants.{I8, U8, I16, U16, I32, U32, I64, U64}
 use Rattle.floyd_int.specs.declared.kinds.IntOp.{IntOp}
@@ -53,7 +53,7 @@ cast_bits from to b = value_with to (cast_of (read_as from) to b)
 abbrev pub result_with : IntOp → IntKind → ℕ → Value
 result_with op k b = if is_comparison op then Vint b else value_with k b
 
--- two kinds of operands, where they are one; the kinds of C's arithmetic have 32 or 64 bits
+-- the kinds by which two operands are read, where they are one
 abbrev pub common : IntKind → IntKind → Option IntKind
 common I32 I32 = Some I32
 common U32 U32 = Some U32
@@ -63,17 +63,17 @@ common k l = None
 
 -- a shift, whose amount is read by its own kind
 abbrev pub left_by : IntKind → IntKind → ℕ → ℕ → Option Value
-left_by k l a b = option_map (value_with k) (left_shift k (value_of k a) (value_of (read_as l) b))
+left_by k l a b = option_map (value_with k) (left_shift k (value_of k a) (value_of l b))
 
 abbrev pub right_by : IntKind → IntKind → ℕ → ℕ → Option Value
-right_by k l a b = option_map (value_with k) (right_shift k (value_of k a) (value_of (read_as l) b))
+right_by k l a b = option_map (value_with k) (right_shift k (value_of k a) (value_of l b))
 
 -- any other operator
 abbrev pub operate : IntOp → Option IntKind → ℕ → ℕ → Option Value
 operate op None a b = None
 operate op (Some k) a b = option_map (result_with op k) (operation_of op k a b)
 
--- an operator on bits of the kinds k and l
+-- an operator on bits that are read by the kinds k and l
 abbrev pub on_bits : IntOp → IntKind → IntKind → ℕ → ℕ → Option Value
 on_bits Shl k l a b = left_by k l a b
 on_bits Shr k l a b = right_by k l a b
@@ -89,12 +89,16 @@ on_one Neg k a = option_map (value_with k) (negation_of k a)
 on_one Complement k a = Some (value_with k (complement_of k a))
 on_one Not k a = option_map Vint (operation_of Eq k a 0)
 
--- on the values of integers
+-- on the values of integers; each operand is read by its own kind
 abbrev pub unary : UnaryOp → IntKind → Value → Option Value
 unary op k v = option_and_then (on_one op (read_as k)) (bits_of k v)
 
 abbrev pub binary : IntOp → IntKind → IntKind → Value → Value → Option Value
-binary op k l v w = option_and_then (λ a. option_and_then (on_bits op (read_as k) l a) (bits_of l w)) (bits_of k v)
+binary op k l v w = option_and_then (λ a. option_and_then (on_bits op (read_as k) (read_as l) a) (bits_of l w)) (bits_of k v)
 
 abbrev pub cast : IntKind → IntKind → Value → Option Value
 cast from to v = option_map (cast_bits from to) (bits_of from v)
+
+-- the whole number that an integer stands for
+abbrev pub number_of : IntKind → Value → Option ℤ
+number_of k v = option_map (value_of (read_as k)) (bits_of k v)

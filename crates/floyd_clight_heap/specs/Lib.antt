@@ -1,0 +1,4 @@
+-- Definitions that contracts cite.
+pub mod Heaplet
+pub mod Laws
+pub mod Loads
