@@ -1,11 +1,11 @@
 -- Plain terms as data: a term is the list of its heads in preorder, each with its number of kids.
-use Rattle.std.specs.Prelude.{◌≡◌, ℕ, List, [], ◌∷◌, ◌++◌, length, take, drop, refl}
+use Rattle.std.specs.Prelude.{◌≡◌, ℕ, List, [], ◌∷◌, ◌++◌, length, take, drop, refl, pos}
 use Rattle.std.specs.Coded.{Coded, code_by, coded×, coded_ℕ, coded_list}
 use Rattle.std.proofs.Common.{sym, ◌∙◌, ap}
 use Rattle.std.proofs.Math.Seq.{take-append_seam, drop-append_seam}
 use Rattle.std.proofs.lemmas.List.{append-nil, append_assoc}
 use Rattle.floyd_tree_sorts.specs.declared.heads.Head.{Head}
-use Rattle.floyd_tree_sorts.specs.declared.heads.Head.TheVariants.{Vundef}
+use Rattle.floyd_tree_sorts.specs.declared.heads.Head.TheVariants.{Literal}
 use Rattle.floyd_tree.specs.Plain.{Plain, Plains, At, Done, More, plains, listed}
 
 pub plains-listed : (kids : Plains) → plains (listed kids) ≡ kids
@@ -33,7 +33,7 @@ run [] = []
 run (e ∷ es) = push e.0 e.1 (run es)
 
 abbrev pub first_of : List Plain → Plain
-first_of [] = At Vundef Done
+first_of [] = At (Literal (pos 0)) Done
 first_of (t ∷ ts) = t
 
 abbrev pub read : List (Head × ℕ) → Plain

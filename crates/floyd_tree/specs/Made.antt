@@ -11,10 +11,6 @@ use Rattle.floyd_tree.specs.WellSorted.{sort_of}
 abbrev pub fits : Plain → Bool
 fits t = nat_le (size t) 65536 && nat_le (height t) 256
 
--- the size and the height of a tree with these kids, unless it is beyond a limit
-abbrev pub measures_of : Plains → Option (ℕ × ℕ)
-measures_of kids = if nat_le (sizes kids + 1) 65536 && nat_le (heights kids + 1) 256 then Some (sizes kids + 1, heights kids + 1) else None
-
 -- why a node may not be made, where its kids are made already
 abbrev pub fault_at : Plain → Option MakeStop
 fault_at t = if is_some (sort_of t) then (if fits t then None else Some TooLarge) else Some IllSorted

@@ -12,13 +12,6 @@ use Rattle.floyd_tree.specs.Plain.{Plain, Plains, plains, sizes, heights}
 abbrev pub formula_fits : PlainFormula → Bool
 formula_fits f = nat_le (formula_size f) 65536 && nat_le (formula_height f) 256
 
--- the size and the height of a formula with these terms and kids, unless it is beyond a limit
-abbrev pub formula_measures_of : Plains → PlainFormulas → Option (ℕ × ℕ)
-formula_measures_of terms kids =
-    if nat_le (sizes terms + formula_sizes kids + 1) 65536 && nat_le (max (heights terms) (formula_heights kids) + 1) 256 then
-    Some (sizes terms + formula_sizes kids + 1, max (heights terms) (formula_heights kids) + 1)
-    else None
-
 -- why a node may not be made, where its terms and kids are made already
 abbrev pub formula_fault_at : PlainFormula → Option MakeStop
 formula_fault_at f = if well_sorted f then (if formula_fits f then None else Some TooLarge) else Some IllSorted

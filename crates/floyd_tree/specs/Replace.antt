@@ -17,17 +17,6 @@ abbrev mutual
   substituted_in x by Done = Done
   substituted_in x by (More t ts) = More (substituted x by t) (substituted_in x by ts)
 
--- a changed term, where there is something to change
-abbrev pub Changes : Result (Option Plain) MakeStop → Bool → Plain → Type 0
-Changes (Ok None) occurs should = occurs ≡ false
-Changes (Ok (Some t)) occurs should = (occurs ≡ true) × (t ≡ should) × (fault should ≡ None)
-Changes (Err stop) occurs should = IsFault stop (fault should)
-
-abbrev pub ChangesAll : Result (Option (List Plain)) MakeStop → Bool → Plains → Type 0
-ChangesAll (Ok None) occurs should = occurs ≡ false
-ChangesAll (Ok (Some ts)) occurs should = (occurs ≡ true) × (plains ts ≡ should) × (faults should ≡ None)
-ChangesAll (Err stop) occurs should = IsFault stop (faults should)
-
 abbrev pub one_if : Bool → ℕ
 one_if test = if test then 1 else 0
 

@@ -10,10 +10,17 @@ use std::marker::Model;
 
 /// A type of C whose array sizes are terms: its shape, and the sizes of its arrays from the outermost on, those of the
 /// parameters of a function before those of its result.
-#[derive(Drop)]
 pub struct AType {
     shape: Shared<Shape>,
     sizes: TermList,
+}
+
+impl Drop for AType {
+    fn drop(self) {
+        let AType { shape, sizes } = self;
+        drop(shape);
+        drop(sizes);
+    }
 }
 
 impl Model for AType {

@@ -2,7 +2,8 @@ ghost use Rattle.std.specs.Prelude.{◌≡◌, ◌+◌, ◌≤◌, true, min, No
 ghost use Rattle.floyd_tree.specs.FormulaPrints.{formula_print, formula_prints_from, formula_summary, formula_summaries_from};
 ghost use Rattle.floyd_tree.specs.Formulas.{all_well_sorted, form_of, formula_height, formula_heights, formula_size, formula_sizes, formulas, formulas_of, takes_all, terms_of, well_sorted};
 ghost use Rattle.floyd_tree.specs.Made.{Gives};
-ghost use Rattle.floyd_tree.specs.MadeFormulas.{formula_fault, formula_measures_of, made_formula};
+ghost use Rattle.floyd_tree.specs.MadeFormulas.{formula_fault, made_formula};
+ghost use Rattle.floyd_tree.specs.MadeFormulasClauses.{formula_measures_of};
 ghost use Rattle.floyd_tree.specs.Plain.{plains};
 ghost use Rattle.floyd_tree.specs.WellSorted.{sorts_of};
 
@@ -23,13 +24,19 @@ pub type FormulaList = Items<Formula>;
 
 /// A formula: a tree of shared nodes over terms, which contracts see as a plain tree.
 #[cycle(formula)]
-#[derive(Drop)]
 pub struct Formula {
     node: Rc<FormulaNode>,
 }
 
+impl Drop for Formula {
+    #[cycle(drop_formula)]
+    fn drop(self) {
+        let Formula { node } = self;
+        drop(node);
+    }
+}
+
 #[cycle(formula)]
-#[derive(Drop)]
 struct FormulaNode {
     head: FormulaHead,
     terms: TermList,
@@ -38,6 +45,24 @@ struct FormulaNode {
     height: u32,
     print: u64,
     summary: u64,
+}
+
+impl Drop for FormulaNode {
+    #[cycle(drop_formula)]
+    fn drop(self) {
+        let FormulaNode {
+            head,
+            terms,
+            kids,
+            size: _,
+            height: _,
+            print: _,
+            summary: _,
+        } = self;
+        drop(head);
+        drop(terms);
+        drop(kids);
+    }
 }
 
 impl Model for Formula {

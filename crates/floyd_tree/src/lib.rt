@@ -15,7 +15,7 @@ mod weights;
 pub use atypes::AType;
 pub use compare::equal;
 pub use floyd_tree_sorts::{
-    FormulaHead, Head, Shape, ShapeList, Sort, SortList, StepShape, StepShapeList, Width,
+    FormulaHead, Head, Operator, Shape, ShapeList, Sort, SortList, StepShape, StepShapeList, Width,
     has_arrays,
 };
 pub use formulas::{

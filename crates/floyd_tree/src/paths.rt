@@ -7,10 +7,18 @@ use std::alloc::{AllocError, Global};
 use std::marker::Model;
 
 /// A step of a path: a field of a struct, or a subscript of an array.
-#[derive(Drop)]
 pub enum PathStep {
     Field(Name),
     Subscript(Term),
+}
+
+impl Drop for PathStep {
+    fn drop(self) {
+        match self {
+            PathStep::Field(name) => drop(name),
+            PathStep::Subscript(term) => drop(term),
+        }
+    }
 }
 
 impl PathStep {
@@ -26,10 +34,16 @@ impl PathStep {
 }
 
 /// A path of fields and subscripts, which contracts see as their list. Up to four steps are kept inline.
-#[derive(Drop)]
 pub struct Path {
     /// Each place in use holds a step.
     steps: SmallVec<Option<PathStep>, 4>,
+}
+
+impl Drop for Path {
+    fn drop(self) {
+        let Path { steps } = self;
+        drop(steps);
+    }
 }
 
 impl Model for Path {

@@ -2,7 +2,8 @@ ghost use Rattle.std.specs.Prelude.{◌≡◌, ◌+◌, ◌^◌, ◌≤◌, ◌+
 ghost use Rattle.floyd_tree.specs.Made.{Gives, IsFault, built, fault, faults};
 ghost use Rattle.floyd_tree.specs.Plain.{mentions, mentions_in, plains};
 ghost use Rattle.floyd_tree_sorts.specs.Prints.{slot};
-ghost use Rattle.floyd_tree.specs.Replace.{Changes, ChangesAll, above, above_in, substituted, substituted_in};
+ghost use Rattle.floyd_tree.specs.Replace.{above, above_in, substituted, substituted_in};
+ghost use Rattle.floyd_tree.specs.ReplaceClauses.{Changes, ChangesAll};
 
 use crate::stop::MakeStop;
 use crate::term::{Term, TermList, assemble, head, kids};
@@ -24,8 +25,8 @@ pub fn subst<L: Ledger>(
     ensures exact { Gives result (built (substituted x.now by.now t.now)) }
     ensures cost { steps.new ≤ steps.old + above x.now t.now }
 {
-    match changed(alloc, t, x, 1 << slot(x), by, steps)? {
-        Some(changed) => Ok(changed),
+    match change(alloc, t, x, 1 << slot(x), by, steps)? {
+        Some(made) => Ok(made),
         None => Ok(t.share()?),
     }
 }
@@ -33,7 +34,7 @@ pub fn subst<L: Ledger>(
 /// The term with `by` in place of the variable, where it occurs. The variable is given with its bit.
 #[cycle(subst)]
 #[tactic(auto, using(crate::proofs::Summaries::not_mentioned, crate::proofs::Summaries::mentions_parts, crate::proofs::Parts::substituted_here, crate::proofs::Parts::substituted_below, crate::proofs::Parts::above_parts))]
-fn changed<L: Ledger>(
+fn change<L: Ledger>(
     alloc: Global,
     t: &Term,
     x: &Name,
@@ -51,7 +52,7 @@ fn changed<L: Ledger>(
     if head(t).is_variable(x) {
         return Ok(Some(by.share()?));
     }
-    let Some(kids) = all_changed(alloc, kids(t).as_slice(), x, bit, by, steps)? else {
+    let Some(kids) = change_all(alloc, kids(t).as_slice(), x, bit, by, steps)? else {
         return Ok(None);
     };
     let head = head(t).share()?;
@@ -60,7 +61,7 @@ fn changed<L: Ledger>(
 
 /// The same of terms in order, where the variable occurs in one of them.
 #[cycle(subst)]
-fn all_changed<L: Ledger>(
+fn change_all<L: Ledger>(
     alloc: Global,
     terms: &[Term],
     x: &Name,
@@ -75,7 +76,7 @@ fn all_changed<L: Ledger>(
     let mut all = Vec::with_capacity(alloc, terms.len())?;
     let mut some = false;
     'terms: for term in terms {
-        if put_changed(alloc, term, x, bit, by, &mut all, steps)? {
+        if put_change(alloc, term, x, bit, by, &mut all, steps)? {
             some = true;
         }
     }
@@ -89,7 +90,7 @@ fn all_changed<L: Ledger>(
 /// Puts the term at the end, with `by` in place of the variable, and says whether the variable occurs.
 #[cycle(subst)]
 #[tactic(auto, using(crate::proofs::Parts::unchanged))]
-fn put_changed<L: Ledger>(
+fn put_change<L: Ledger>(
     alloc: Global,
     term: &Term,
     x: &Name,
@@ -105,9 +106,9 @@ fn put_changed<L: Ledger>(
     ensures err { IfErr result (λ stop. IsFault stop (fault (substituted x.now by.now term.now))) }
     ensures cost { steps.new ≤ steps.old + above x.now term.now }
 {
-    match changed(alloc, term, x, bit, by, steps)? {
-        Some(changed) => {
-            all.push(changed)?;
+    match change(alloc, term, x, bit, by, steps)? {
+        Some(made) => {
+            all.push(made)?;
             Ok(true)
         }
         None => {

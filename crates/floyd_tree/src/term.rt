@@ -1,14 +1,15 @@
 ghost use Rattle.std.specs.Prelude.{◌≡◌, ◌+◌, ◌≤◌, min, Some, None, IfOk, OnOk, OnErr, option_and_then};
-ghost use Rattle.floyd_tree.specs.Made.{Gives, fault, faults, made, measures_of};
+ghost use Rattle.floyd_tree.specs.Made.{Gives, fault, faults, made};
+ghost use Rattle.floyd_tree.specs.MadeClauses.{measures_of};
 ghost use Rattle.floyd_tree.specs.Plain.{At, head_of, kids_of, plains, size, sizes, height, heights};
 ghost use Rattle.floyd_tree.specs.Prints.{print, prints_from, summary, summaries_from};
-ghost use Rattle.floyd_tree_sorts.specs.Table.{row_sort};
+ghost use Rattle.floyd_tree_sorts.specs.Table.{alone, by_row, of_number};
 ghost use Rattle.floyd_tree.specs.WellSorted.{sort_of, sorts_of};
 
 use crate::stop::MakeStop;
 use floyd_text::Steps;
 use floyd_tree_sorts::{
-    Head, Sort, all_z, blend, has_arrays, sort0, sort1, sort2, sort3, sorts_match,
+    Head, Row, Sort, all_z, blend, has_arrays, sort0, sort1, sort2, sort3, sorts_match,
 };
 use sqlite_items::Items;
 use std::alloc::{AllocError, Global};
@@ -27,13 +28,19 @@ pub type TermList = Items<Term>;
 
 /// A term: a tree of shared nodes, which contracts see as a plain tree.
 #[cycle(term)]
-#[derive(Drop)]
 pub struct Term {
     node: Rc<TermNode>,
 }
 
+impl Drop for Term {
+    #[cycle(drop)]
+    fn drop(self) {
+        let Term { node } = self;
+        drop(node);
+    }
+}
+
 #[cycle(term)]
-#[derive(Drop)]
 struct TermNode {
     head: Head,
     kids: Items<Term>,
@@ -42,6 +49,24 @@ struct TermNode {
     height: u32,
     print: u64,
     summary: u64,
+}
+
+impl Drop for TermNode {
+    #[cycle(drop)]
+    fn drop(self) {
+        let TermNode {
+            head,
+            kids,
+            sort,
+            size: _,
+            height: _,
+            print: _,
+            summary: _,
+        } = self;
+        drop(head);
+        drop(kids);
+        drop(sort);
+    }
 }
 
 impl Model for Term {
@@ -242,6 +267,14 @@ fn sort_here(alloc: Global, head: &Head, kids: &[Term]) -> Result<Option<Sort>, 
     ensures { IfOk result (λ s. s ≡ sort_of (At head.now (plains kids.now))) }
 {
     match head {
+        Head::Literal(_) => Ok(alone(kids, Sort::Z)),
+        Head::Variable(_, sort) => Ok(alone(kids, sort.share()?)),
+        Head::Gv(_) => Ok(alone(kids, Sort::Val)),
+        Head::Lv(_) => Ok(alone(kids, Sort::Val)),
+        Head::Nil(item) => Ok(alone(kids, Sort::list_of(alloc, item.share()?)?)),
+        Head::Leaf(item) => Ok(alone(kids, Sort::tree_of(alloc, item.share()?)?)),
+        Head::Signed(_) => Ok(of_number(kids)),
+        Head::Unsigned(_) => Ok(of_number(kids)),
         Head::Default(shape, sort) => {
             let sorts = sorts(alloc, kids)?;
             if has_arrays(shape.get(), sorts.len()) && all_z(sorts.as_slice()) {
@@ -258,19 +291,40 @@ fn sort_here(alloc: Global, head: &Head, kids: &[Term]) -> Result<Option<Sort>, 
                 Ok(None)
             }
         }
-        _ => row_here(alloc, head, kids),
+        Head::Operator(operator) => row_here(alloc, operator.row(), kids),
     }
 }
 
-/// What the row of a head gives of these kids.
-fn row_here(alloc: Global, head: &Head, kids: &[Term]) -> Result<Option<Sort>, AllocError>
-    ensures { IfOk result (λ s. s ≡ option_and_then (row_sort head.now) (sorts_of (plains kids.now))) }
+/// The sort of a term without kids.
+fn alone(kids: &[Term], sort: Sort) -> Option<Sort>
+    ensures { result ≡ option_and_then (alone sort) (sorts_of (plains kids.now)) }
 {
     match kids {
-        [] => sort0(alloc, head),
-        [a] => sort1(alloc, head, sort(a)),
-        [a, b] => sort2(alloc, head, sort(a), sort(b)),
-        [a, b, c] => sort3(head, sort(a), sort(b), sort(c)),
+        [] => Some(sort),
+        _ => None,
+    }
+}
+
+/// The sort of numbers, of one kid that is a number.
+fn of_number(kids: &[Term]) -> Option<Sort>
+    ensures { result ≡ option_and_then of_number (sorts_of (plains kids.now)) }
+{
+    match kids {
+        [] => None,
+        [a] => if sort(a).is_z() { Some(Sort::Z) } else { None },
+        _ => None,
+    }
+}
+
+/// What an operator of this row gives of these kids.
+fn row_here(alloc: Global, row: Row, kids: &[Term]) -> Result<Option<Sort>, AllocError>
+    ensures { IfOk result (λ s. s ≡ option_and_then (by_row row) (sorts_of (plains kids.now))) }
+{
+    match kids {
+        [] => sort0(alloc, row),
+        [a] => sort1(alloc, row, sort(a)),
+        [a, b] => sort2(alloc, row, sort(a), sort(b)),
+        [a, b, c] => sort3(alloc, row, sort(a), sort(b), sort(c)),
         _ => Ok(None),
     }
 }

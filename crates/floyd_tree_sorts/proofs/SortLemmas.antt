@@ -3,7 +3,7 @@ use Rattle.std.proofs.Common.{◌≡◌, IsTrue, ◌↔◌, Bool, true, false, �
 use Rattle.floyd_tree_sorts.specs.declared.sorts.Sort.{Sort, Z, Val, ListOf, ListOf', TreeOf, TreeOf', Prod, Prod', end_of-Sort, more_of-Sort}
 use Rattle.floyd_tree_sorts.specs.declared.sorts.Sort.TheBlock.{shape-the_row-Sort-0, hidden-the_row-Sort-0}
 use denote.Hole.Carrier.{hidden}
-use Rattle.floyd_tree_sorts.specs.Sorts.{same_sort, same_sorts, list_sort, tree_sort, pair_sort}
+use Rattle.floyd_tree_sorts.specs.Sorts.{same_sort, same_sorts, list_sort, tree_sort, pair_sort, is_z, is_val, is_list_of, is_tree_of, is_pair_of}
 
 pub both_true : (a b : Bool) → (a && b) ≡ true → (a ≡ true) × (b ≡ true)
 both_true true true h = (refl, refl)
@@ -63,3 +63,39 @@ same_sorts_self (a ∷ more) = ap (λ x. x && same_sorts more more) (same_sort_s
 pub same_sorts_test : (r : Bool) (a b : List Sort) → (IsTrue r ↔ (a ≡ b)) → r ≡ same_sorts a b
 same_sorts_test true a b h = sym (ap (λ x. same_sorts a x) (sym (h.0 refl)) ∙ same_sorts_self a)
 same_sorts_test false a b h = not_same (same_sorts a b) (λ e. let wrong : false ≡ true = h.1 (same_sorts_true a b e) in cc)
+
+-- the test against a sort that is known in part
+pub same_z : (a : Sort) → same_sort Z a ≡ is_z a
+same_z Z = refl
+same_z Val = refl
+same_z (ListOf' p (more_of-Sort a end_of-Sort)) = refl
+same_z (TreeOf' p (more_of-Sort a end_of-Sort)) = refl
+same_z (Prod' p (more_of-Sort a end_of-Sort) q (more_of-Sort b end_of-Sort)) = refl
+
+pub same_val : (a : Sort) → same_sort Val a ≡ is_val a
+same_val Z = refl
+same_val Val = refl
+same_val (ListOf' p (more_of-Sort a end_of-Sort)) = refl
+same_val (TreeOf' p (more_of-Sort a end_of-Sort)) = refl
+same_val (Prod' p (more_of-Sort a end_of-Sort) q (more_of-Sort b end_of-Sort)) = refl
+
+pub same_list : (s a : Sort) → same_sort (list_sort s) a ≡ is_list_of s a
+same_list s Z = refl
+same_list s Val = refl
+same_list s (ListOf' p (more_of-Sort a end_of-Sort)) = refl
+same_list s (TreeOf' p (more_of-Sort a end_of-Sort)) = refl
+same_list s (Prod' p (more_of-Sort a end_of-Sort) q (more_of-Sort b end_of-Sort)) = refl
+
+pub same_tree : (s a : Sort) → same_sort (tree_sort s) a ≡ is_tree_of s a
+same_tree s Z = refl
+same_tree s Val = refl
+same_tree s (ListOf' p (more_of-Sort a end_of-Sort)) = refl
+same_tree s (TreeOf' p (more_of-Sort a end_of-Sort)) = refl
+same_tree s (Prod' p (more_of-Sort a end_of-Sort) q (more_of-Sort b end_of-Sort)) = refl
+
+pub same_pair : (s t a : Sort) → same_sort (pair_sort s t) a ≡ is_pair_of s t a
+same_pair s t Z = refl
+same_pair s t Val = refl
+same_pair s t (ListOf' p (more_of-Sort a end_of-Sort)) = refl
+same_pair s t (TreeOf' p (more_of-Sort a end_of-Sort)) = refl
+same_pair s t (Prod' p (more_of-Sort a end_of-Sort) q (more_of-Sort b end_of-Sort)) = refl

@@ -1,11 +1,12 @@
 -- Fingerprints of heads, and the bits that stand for variables. Equal heads have equal ones; no more is claimed of them.
-use Rattle.std.specs.Prelude.{Bool, true, false, ℕ, ◌*◌, ◌/◌, ◌%◌, ◌^◌, bit_xor, List, [], ◌∷◌, unsigned_abs}
+use Rattle.std.specs.Prelude.{ℕ, ◌*◌, ◌/◌, ◌%◌, ◌^◌, bit_xor, List, [], ◌∷◌, unsigned_abs}
 use Rattle.floyd_tree_sorts.specs.declared.heads.Width.TheVariants.{Bits8, Bits16, Bits32, Bits64}
 use Rattle.floyd_tree_sorts.specs.declared.heads.Width.{Width}
 use Rattle.floyd_tree_sorts.specs.declared.heads.Head.{Head}
-use Rattle.floyd_tree_sorts.specs.declared.heads.Head.TheVariants.{Literal, Variable, Vundef, Vint, Vlong, Nullval, Gv, Lv, PtrAdd, Vints, Vlongs, Fst, Snd, Nil, Len, Nth, Upd, Rev, Sum, Sublist, Repeat, Leaf, Node, Quot, Rem, Signed, Unsigned, Band, Bor, Bxor, Bnot, Shl, Shr, Eqz, Ltz, Lez, Eqv, Default, Add, Sub, Mul, Cons, Append, Pair, Fun}
+use Rattle.floyd_tree_sorts.specs.declared.heads.Head.TheVariants.{Literal, Variable, Gv, Lv, Nil, Leaf, Signed, Unsigned, Default, Fun, Operator}
 use Rattle.floyd_tree_sorts.specs.declared.connectives.FormulaHead.{FormulaHead}
 use Rattle.floyd_tree_sorts.specs.declared.connectives.FormulaHead.TheVariants as f
+use Rattle.floyd_tree_sorts.specs.Operators.{row}
 
 -- a fingerprint with one more part
 unfoldable pub blend : ℕ → ℕ → ℕ
@@ -29,41 +30,6 @@ width_number Bits64 = 64
 
 -- the number of a head's kind
 abbrev pub kind_number : Head → ℕ
-kind_number Vundef = 0
-kind_number Vint = 1
-kind_number Vlong = 2
-kind_number Nullval = 3
-kind_number PtrAdd = 4
-kind_number Vints = 5
-kind_number Vlongs = 6
-kind_number Fst = 7
-kind_number Snd = 8
-kind_number Len = 9
-kind_number Nth = 10
-kind_number Upd = 11
-kind_number Rev = 12
-kind_number Sum = 13
-kind_number Sublist = 14
-kind_number Repeat = 15
-kind_number Node = 16
-kind_number Quot = 17
-kind_number Rem = 18
-kind_number Band = 19
-kind_number Bor = 20
-kind_number Bxor = 21
-kind_number Bnot = 22
-kind_number Shl = 23
-kind_number Shr = 24
-kind_number Eqz = 25
-kind_number Ltz = 26
-kind_number Lez = 27
-kind_number Eqv = 28
-kind_number Add = 29
-kind_number Sub = 30
-kind_number Mul = 31
-kind_number Cons = 32
-kind_number Append = 33
-kind_number Pair = 34
 kind_number (Literal n) = 35
 kind_number (Variable x s) = 36
 kind_number (Gv x) = 37
@@ -74,20 +40,7 @@ kind_number (Signed w) = 41
 kind_number (Unsigned w) = 42
 kind_number (Default shape s) = 43
 kind_number (Fun name arguments s) = 44
-
--- whether a head holds more than its kind
-abbrev pub has_parts : Head → Bool
-has_parts (Literal n) = true
-has_parts (Variable x s) = true
-has_parts (Gv x) = true
-has_parts (Lv x) = true
-has_parts (Nil s) = true
-has_parts (Leaf s) = true
-has_parts (Signed w) = true
-has_parts (Unsigned w) = true
-has_parts (Default shape s) = true
-has_parts (Fun name arguments s) = true
-has_parts head = false
+kind_number (Operator operator) = (row operator).number
 
 -- what a head holds besides its kind, without sorts and shapes
 abbrev pub payload_print : Head → ℕ

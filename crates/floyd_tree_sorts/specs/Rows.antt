@@ -1,12 +1,19 @@
 -- The sort table of formulas: which terms and how many formulas a head takes.
-use Rattle.std.specs.Prelude.{ℕ, ◌+◌, Bool, false, ◌&&◌, nat_eq, List, [], ◌∷◌, length}
+use Rattle.std.specs.Prelude.{ℕ, ◌+◌, Bool, true, false, ◌&&◌, nat_eq, List, [], ◌∷◌, length}
 use Rattle.floyd_tree_sorts.specs.declared.connectives.FormulaHead.{FormulaHead}
 use Rattle.floyd_tree_sorts.specs.declared.connectives.FormulaHead.TheVariants.{True, False, Implies, Or, And, Forall, Exists, Equal, AtMost, IsPtr, Defined, Hasty, Compatible, FuncPtr}
 use Rattle.floyd_tree_sorts.specs.declared.connectives.StepShape.{StepShape}
 use Rattle.floyd_tree_sorts.specs.declared.connectives.StepShape.TheVariants.{Subscript, Field}
+use Rattle.floyd_tree_sorts.specs.declared.shape.Shape.{Shape, Int, Pointer'}
 use Rattle.floyd_tree_sorts.specs.declared.sorts.Sort.{Sort}
 use Rattle.floyd_tree_sorts.specs.Sorts.{is_val, is_z, same_sort}
 use Rattle.floyd_tree_sorts.specs.Table.{arrays}
+
+-- an integer or a pointer
+abbrev pub is_scalar : Shape → Bool
+is_scalar (Int kind) = true
+is_scalar (Pointer' p target) = true
+is_scalar shape = false
 
 abbrev pub subscripts : List StepShape → ℕ
 subscripts [] = 0
@@ -50,6 +57,7 @@ takes_row head (a ∷ b ∷ c ∷ more) n = false
 
 -- whether a head takes terms of these sorts and this number of formulas
 abbrev pub takes : FormulaHead → List Sort → ℕ → Bool
-takes (Hasty shape) sorts n = nat_eq n 0 && (nat_eq (length sorts) (arrays shape + 1) && numbers_then_val sorts)
+takes (Hasty shape) sorts n =
+    is_scalar shape && (nat_eq n 0 && (nat_eq (length sorts) (arrays shape + 1) && numbers_then_val sorts))
 takes (Compatible shape path) sorts n = nat_eq n 0 && (nat_eq (length sorts) (arrays shape + subscripts path + 1) && numbers_then_val sorts)
 takes head sorts n = takes_row head sorts n

@@ -34,10 +34,6 @@ abbrev pub is_val : Sort → Bool
 is_val Val = true
 is_val s = false
 
-abbrev pub is_list : Sort → Bool
-is_list (ListOf' p item) = true
-is_list s = false
-
 -- whether the second is the sort of lists, or of trees, of items of the first
 abbrev pub is_list_of : Sort → Sort → Bool
 is_list_of item (ListOf' p (more_of-Sort s end_of-Sort)) = same_sort item s
@@ -46,6 +42,11 @@ is_list_of item s = false
 abbrev pub is_tree_of : Sort → Sort → Bool
 is_tree_of item (TreeOf' p (more_of-Sort s end_of-Sort)) = same_sort item s
 is_tree_of item s = false
+
+-- whether the third is the sort of pairs of these
+abbrev pub is_pair_of : Sort → Sort → Sort → Bool
+is_pair_of a b (Prod' p (more_of-Sort c end_of-Sort) q (more_of-Sort d end_of-Sort)) = same_sort a c && same_sort b d
+is_pair_of a b s = false
 
 -- the sort of the items of a list, of the items of a tree, and of the parts of a pair
 abbrev pub item_sort : Sort → Option Sort

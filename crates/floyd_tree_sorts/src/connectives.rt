@@ -10,10 +10,18 @@ use sqlite_items::Items;
 use std::alloc::AllocError;
 
 /// A step of a path without its term: a field of a struct, or a subscript of an array.
-#[derive(Drop)]
 pub enum StepShape {
     Subscript,
     Field(Name),
+}
+
+impl Drop for StepShape {
+    fn drop(self) {
+        match self {
+            StepShape::Subscript => {}
+            StepShape::Field(name) => drop(name),
+        }
+    }
 }
 
 /// Steps in order.
@@ -55,7 +63,6 @@ pub fn same_steps(a: &[StepShape], b: &[StepShape]) -> bool
 }
 
 /// What stands at a node of a formula. A list of binders is one node a binder.
-#[derive(Drop)]
 pub enum FormulaHead {
     True,
     False,
@@ -69,13 +76,43 @@ pub enum FormulaHead {
     AtMost,
     IsPtr,
     Defined,
-    /// The value is one of this type. The terms are the sizes of the type's arrays, and then the value.
+    /// The value is one of this type, which is scalar. The terms are the sizes of the type's arrays, and then the value.
     Hasty(Shared<Shape>),
     /// The value is a pointer that fits the type and the path. The terms are the sizes of the type's arrays, the
     /// subscripts of the path, and then the value.
     Compatible(Shared<Shape>, Shared<StepShapeList>),
     /// The value is the start of a function that was declared with the specification of this name.
     FuncPtr(Name),
+}
+
+impl Drop for FormulaHead {
+    fn drop(self) {
+        match self {
+            FormulaHead::True => {}
+            FormulaHead::False => {}
+            FormulaHead::Implies => {}
+            FormulaHead::Or => {}
+            FormulaHead::And => {}
+            FormulaHead::Forall(name, sort) => {
+                drop(name);
+                drop(sort);
+            }
+            FormulaHead::Exists(name, sort) => {
+                drop(name);
+                drop(sort);
+            }
+            FormulaHead::Equal => {}
+            FormulaHead::AtMost => {}
+            FormulaHead::IsPtr => {}
+            FormulaHead::Defined => {}
+            FormulaHead::Hasty(shape) => drop(shape),
+            FormulaHead::Compatible(shape, step_shapes) => {
+                drop(shape);
+                drop(step_shapes);
+            }
+            FormulaHead::FuncPtr(name) => drop(name),
+        }
+    }
 }
 
 impl FormulaHead {

@@ -3,6 +3,7 @@
 
 mod connectives;
 mod heads;
+mod operators;
 mod prints;
 mod rows;
 mod shape;
@@ -11,6 +12,7 @@ mod table;
 
 pub use connectives::{FormulaHead, StepShape, StepShapeList};
 pub use heads::{Head, Width};
+pub use operators::{Arguments, Operator, Row, RowSort};
 pub use prints::{blend, slot};
 pub use rows::takes;
 pub use shape::{Shape, ShapeList, has_arrays};

@@ -12,7 +12,10 @@ pub fn takes(head: &FormulaHead, sorts: &[Sort], count: usize) -> bool
 {
     match head {
         FormulaHead::Hasty(shape) => {
-            count == 0 && has_numbers(shape.get(), 0, sorts) && numbers_then_val(sorts)
+            shape.get().is_scalar()
+                && count == 0
+                && has_numbers(shape.get(), 0, sorts)
+                && numbers_then_val(sorts)
         }
         FormulaHead::Compatible(shape, path) => {
             count == 0

@@ -1,5 +1,7 @@
 ghost use Rattle.std.specs.Prelude.{◌≡◌, ◌-◌, ◌^◌, min, IsTrue, ◌↔◌, nat_eq};
-ghost use Rattle.floyd_tree_sorts.specs.Table.{arrays, arrays_of};
+ghost use Rattle.floyd_tree_sorts.specs.Rows.{is_scalar};
+ghost use Rattle.floyd_tree_sorts.specs.ShapeClauses.{arrays_of};
+ghost use Rattle.floyd_tree_sorts.specs.Table.{arrays};
 
 use floyd_int::IntKind;
 use floyd_text::{Name, Shared};
@@ -9,7 +11,6 @@ use sqlite_items::Items;
 pub type ShapeList = Items<Shape>;
 
 /// A type of C in which arrays have no size. A struct is named by its tag.
-#[derive(Drop)]
 pub enum Shape {
     Void,
     Int(IntKind),
@@ -21,7 +22,38 @@ pub enum Shape {
     Function(ShapeList, Shared<Shape>),
 }
 
+impl Drop for Shape {
+    fn drop(self) {
+        match self {
+            Shape::Void => {}
+            Shape::Int(_) => {}
+            Shape::Pointer(shape) => drop(shape),
+            Shape::Array(shape) => drop(shape),
+            Shape::Struct(name) => drop(name),
+            Shape::Function(shapes, shape) => {
+                drop(shapes);
+                drop(shape);
+            }
+        }
+    }
+}
+
 impl Shape {
+    /// Whether the type is an integer or a pointer.
+    #[tactic(auto, using(crate::proofs::ShapeLemmas::pointer_is_scalar, crate::proofs::ShapeLemmas::array_is_not, crate::proofs::ShapeLemmas::function_is_not))]
+    pub fn is_scalar(&self) -> bool
+        ensures { result ≡ is_scalar self.now }
+    {
+        match self {
+            Shape::Int(_) => true,
+            Shape::Pointer(_) => true,
+            Shape::Void => false,
+            Shape::Array(_) => false,
+            Shape::Struct(_) => false,
+            Shape::Function(_, _) => false,
+        }
+    }
+
     #[cycle(shape)]
     pub fn same(&self, other: &Shape) -> bool
         ensures { IsTrue result ↔ (self.now ≡ other.now) }

@@ -1,6 +1,6 @@
 ghost use Rattle.std.specs.Prelude.{◌≡◌, IfOk, IsTrue, ◌↔◌};
 ghost use Rattle.floyd_tree_sorts.specs.Table.{all_z};
-ghost use Rattle.floyd_tree_sorts.specs.Sorts.{same_sorts, list_sort, tree_sort, pair_sort, same_sort, is_z, is_val, is_list, is_list_of, is_tree_of, item_sort, first_sort, second_sort};
+ghost use Rattle.floyd_tree_sorts.specs.Sorts.{same_sorts, list_sort, tree_sort, pair_sort, same_sort, is_z, is_val, is_list_of, is_tree_of, is_pair_of, item_sort, node_sort, first_sort, second_sort};
 
 use floyd_text::Shared;
 use sqlite_items::Items;
@@ -10,7 +10,6 @@ use std::alloc::{AllocError, Global};
 pub type SortList = Items<Sort>;
 
 /// The sort of a term: a whole number, a value of the machine, or lists, trees and pairs of these.
-#[derive(Drop)]
 pub enum Sort {
     Z,
     Val,
@@ -19,6 +18,21 @@ pub enum Sort {
     /// Binary trees with items of this sort at their nodes.
     TreeOf(Shared<Sort>),
     Prod(Shared<Sort>, Shared<Sort>),
+}
+
+impl Drop for Sort {
+    fn drop(self) {
+        match self {
+            Sort::Z => {}
+            Sort::Val => {}
+            Sort::ListOf(sort) => drop(sort),
+            Sort::TreeOf(sort) => drop(sort),
+            Sort::Prod(first, second) => {
+                drop(first);
+                drop(second);
+            }
+        }
+    }
 }
 
 impl Sort {
@@ -99,16 +113,6 @@ impl Sort {
         }
     }
 
-    #[tactic(auto, using(crate::proofs::SortLemmas::list_of_is, crate::proofs::SortLemmas::tree_of_is, crate::proofs::SortLemmas::prod_is))]
-    pub fn is_list(&self) -> bool
-        ensures { result ≡ is_list self.now }
-    {
-        match self {
-            Sort::ListOf(_) => true,
-            Sort::Z | Sort::Val | Sort::TreeOf(_) | Sort::Prod(_, _) => false,
-        }
-    }
-
     /// Whether this is the sort of lists of items of that sort.
     #[tactic(auto, using(crate::proofs::SortLemmas::list_of_is, crate::proofs::SortLemmas::tree_of_is, crate::proofs::SortLemmas::prod_is))]
     pub fn is_list_of(&self, item: &Sort) -> bool
@@ -131,6 +135,17 @@ impl Sort {
         }
     }
 
+    /// Whether this is the sort of pairs of these sorts.
+    #[tactic(auto, using(crate::proofs::SortLemmas::list_of_is, crate::proofs::SortLemmas::tree_of_is, crate::proofs::SortLemmas::prod_is))]
+    pub fn is_pair_of(&self, first: &Sort, second: &Sort) -> bool
+        ensures { result ≡ is_pair_of first.now second.now self.now }
+    {
+        match self {
+            Sort::Prod(a, b) => first.matches(a.get()) && second.matches(b.get()),
+            Sort::Z | Sort::Val | Sort::ListOf(_) | Sort::TreeOf(_) => false,
+        }
+    }
+
     /// The sort of the items, of lists.
     #[tactic(auto, using(crate::proofs::SortLemmas::list_of_is, crate::proofs::SortLemmas::tree_of_is, crate::proofs::SortLemmas::prod_is))]
     pub fn item(&self) -> Result<Option<Sort>, AllocError>
@@ -139,6 +154,17 @@ impl Sort {
         match self {
             Sort::ListOf(item) => Ok(Some(item.get().share()?)),
             Sort::Z | Sort::Val | Sort::TreeOf(_) | Sort::Prod(_, _) => Ok(None),
+        }
+    }
+
+    /// The sort of the items, of trees.
+    #[tactic(auto, using(crate::proofs::SortLemmas::list_of_is, crate::proofs::SortLemmas::tree_of_is, crate::proofs::SortLemmas::prod_is))]
+    pub fn node_item(&self) -> Result<Option<Sort>, AllocError>
+        ensures { IfOk result (λ s. s ≡ node_sort self.now) }
+    {
+        match self {
+            Sort::TreeOf(item) => Ok(Some(item.get().share()?)),
+            Sort::Z | Sort::Val | Sort::ListOf(_) | Sort::Prod(_, _) => Ok(None),
         }
     }
 

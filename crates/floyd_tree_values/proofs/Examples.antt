@@ -14,7 +14,8 @@ use Rattle.floyd_tree_sorts.specs.declared.sorts.Sort.{Z, Val as ValSort}
 use Rattle.floyd_tree_sorts.specs.Sorts.{list_sort, pair_sort}
 use Rattle.floyd_tree_sorts.specs.declared.heads.Width.TheVariants.{Bits8, Bits16}
 use Rattle.floyd_tree_sorts.specs.declared.heads.Head.{Head}
-use Rattle.floyd_tree_sorts.specs.declared.heads.Head.TheVariants.{Literal, Variable, Nil, Cons, Add, Nth, Fun as FunHead}
+use Rattle.floyd_tree_sorts.specs.declared.heads.Head.TheVariants.{Literal, Variable, Nil, Operator, Fun as FunHead}
+use Rattle.floyd_tree_sorts.specs.declared.operators.Operator.TheVariants.{Cons, Add, Nth}
 use Rattle.floyd_tree.specs.Plain.{Plain, At, Done, More}
 use Rattle.floyd_tree_values.specs.Data.{Datum, Number, Val, Pair, seq, default_of}
 use Rattle.floyd_tree_values.specs.Numbers.{quot, rem, signed, unsigned, band, bor, bxor, bnot, shl, shr, eqz, ltz, lez}
@@ -177,10 +178,10 @@ abbrev length_of : Plain → Plain
 length_of t = At (FunHead (108 ∷ []) (list_sort Z ∷ []) Z) (More t Done)
 
 abbrev cons : Plain → Plain → Plain
-cons t u = At Cons (More t (More u Done))
+cons t u = At (Operator Cons) (More t (More u Done))
 
 abbrev cons_term : Plain
-cons_term = At Add (More (number (pos 1)) (More (length_of (leaf (Variable (114 ∷ []) (list_sort Z)))) Done))
+cons_term = At (Operator Add) (More (number (pos 1)) (More (length_of (leaf (Variable (114 ∷ []) (list_sort Z)))) Done))
 
 abbrev cons_case : Case
 cons_case = record { pattern = ConsPattern (120 ∷ []) (114 ∷ []); term = cons_term }
@@ -201,9 +202,9 @@ number_means env z = built_in {s = Z} refl refl none
 module _ (env : Env) where
   list_means : Means defs env (cons (number (pos 7)) (cons (number (pos 8)) (leaf (Nil Z)))) (seq (Number (pos 7) ∷ Number (pos 8) ∷ []))
   list_means =
-      built_in {head = Cons} {s = list_sort Z} {ds = Number (pos 7) ∷ seq (Number (pos 8) ∷ []) ∷ []} refl refl
+      built_in {head = Operator Cons} {s = list_sort Z} {ds = Number (pos 7) ∷ seq (Number (pos 8) ∷ []) ∷ []} refl refl
       (more (number_means env (pos 7))
-      (more (built_in {head = Cons} {s = list_sort Z} {ds = Number (pos 8) ∷ seq [] ∷ []} refl refl
+      (more (built_in {head = Operator Cons} {s = list_sort Z} {ds = Number (pos 8) ∷ seq [] ∷ []} refl refl
       (more (number_means env (pos 8)) (more (built_in {head = Nil Z} {s = list_sort Z} {ds = []} refl refl none) none))) none))
 
 -- the length of an empty list, and of a list with one more item
@@ -216,7 +217,7 @@ length_cons env t d ds n m rest =
     let inner = inside env bindings in
     let tail : Means defs inner (leaf (Variable (114 ∷ []) (list_sort Z))) (seq ds) = built_in {s = list_sort Z} {ds = []} refl refl none in
     call {bindings = bindings} {term = cons_term} (more m none) refl
-    (built_in {head = Add} {s = Z} {ds = Number (pos 1) ∷ Number n ∷ []} refl refl
+    (built_in {head = Operator Add} {s = Z} {ds = Number (pos 1) ∷ Number n ∷ []} refl refl
     (more (number_means inner (pos 1)) (more (rest inner (leaf (Variable (114 ∷ []) (list_sort Z))) tail) none)))
 
 -- length(7 :: 8 :: nil) is 2
@@ -233,17 +234,17 @@ cons_keeps : Keeps cons_case
 cons_keeps =
     record {
       names = λ e. let same : false ≡ true = (bytes_eq-Decides (120 ∷ []) (114 ∷ [])).1 e in cc;
-      term = record { sorted = refl; allowed = (tt, ((tt, tt), ((inr (refl, refl, refl, inl refl), ((refl, tt), tt)), tt))) };
+      term = record { fits = record { sorted = refl; allowed = (tt, ((tt, tt), ((inr (refl, refl, refl, inl refl), ((refl, tt), tt)), tt))) }; no_local = refl };
     }
 
 nil_keeps : Keeps nil_case
-nil_keeps = record { names = tt; term = record { sorted = refl; allowed = (tt, tt) } }
+nil_keeps = record { names = tt; term = record { fits = record { sorted = refl; allowed = (tt, tt) }; no_local = refl } }
 
 length_keeps : DefsKeep defs
-length_keeps = (record { name = refl; body = (inr refl, All-cons Keeps cons_case (nil_case ∷ []) cons_keeps (All-cons Keeps nil_case [] nil_keeps (All-nil Keeps))) }, tt)
+length_keeps = (record { name = refl; arguments = (λ e. e, tt); body = (inr refl, All-cons Keeps cons_case (nil_case ∷ []) cons_keeps (All-cons Keeps nil_case [] nil_keeps (All-nil Keeps))) }, tt)
 
 -- nth(5, nil) of lists of pairs is a pair of defaults
-nth_of_nil : (env : Env) → Means defs env (At Nth (More (number (pos 5)) (More (leaf (Nil (pair_sort Z ValSort))) Done))) (Pair (Number (pos 0)) undefined)
+nth_of_nil : (env : Env) → Means defs env (At (Operator Nth) (More (number (pos 5)) (More (leaf (Nil (pair_sort Z ValSort))) Done))) (Pair (Number (pos 0)) undefined)
 nth_of_nil env =
-    built_in {head = Nth} {s = pair_sort Z ValSort} {ds = Number (pos 5) ∷ seq [] ∷ []} refl refl
+    built_in {head = Operator Nth} {s = pair_sort Z ValSort} {ds = Number (pos 5) ∷ seq [] ∷ []} refl refl
     (more (number_means env (pos 5)) (more (built_in {head = Nil (pair_sort Z ValSort)} {s = list_sort (pair_sort Z ValSort)} {ds = []} refl refl none) none))

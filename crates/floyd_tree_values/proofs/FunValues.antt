@@ -249,7 +249,7 @@ module _ (defs : Defs) (before : List Fun) (f : Fun) (complete : Complete defs b
   whole_answer : (t : Plain) → f.body ≡ Whole t → BodyKeeps defs.structs before f (Whole t) → (env : Env) (ds : List Datum) → HaveSorts (argument_sorts f) ds → Answer defs env f ds
   whole_answer t b keeps env ds h =
       let arguments = bound f.arguments ds in
-      term_answer env ds f.arguments (CallsFrom before f []) (record { bindings = arguments; term = t }) (ap (λ x. opened_by x ds arguments) b) (agree_bound f.arguments ds h) keeps
+      term_answer env ds f.arguments (CallsFrom before f []) (record { bindings = arguments; term = t }) (ap (λ x. opened_by x ds arguments) b) (agree_bound f.arguments ds h) keeps.fits
       (part_answers (inside env arguments) [] (Number (pos 0)) (λ x i. absurd i) (λ e p es g. absurd p))
 
   -- a case, where the FUN has values at the parts of its first argument
@@ -261,7 +261,7 @@ module _ (defs : Defs) (before : List Fun) (f : Fun) (complete : Complete defs b
       term_answer env (d ∷ ds) (pattern_scope p s item ++ f.arguments) (CallsFrom before f (smaller p)) (record { bindings = all; term = c.case.term })
       (ap (λ x. opened_by x (d ∷ ds) arguments) b ∙ c.is)
       (agree_append (pattern_scope p s item) f.arguments c.own arguments (agree p c.own c.fits) (agree_bound f.arguments (d ∷ ds) h))
-      c.keeps.term
+      c.keeps.term.fits
       (part_answers (inside env all) (smaller p) d (λ x i. smaller_is_part arguments p d c.own x c.keeps.names c.fits i) (λ e q es g. smaller_has e q (inside env all) es g))
 
   -- the FUN's first argument is of that sort

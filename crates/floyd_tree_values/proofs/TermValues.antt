@@ -1,19 +1,21 @@
 -- A term that fits has a value of its sort, where the calls in it have.
-use Rattle.std.proofs.Common.{◌≡◌, ℕ, Bool, true, false, List, [], ◌∷◌, map, Option, Some, None, refl, sym, ap, subst, ◌∙◌}
+use Rattle.std.proofs.Common.{◌≡◌, ℕ, Bool, true, false, List, [], ◌∷◌, map, Option, Some, None, refl, sym, ap, subst, ◌∙◌, arith}
 use Rattle.std.specs.Prelude.{option_and_then}
-use Rattle.floyd_tree_sorts.specs.declared.sorts.Sort.{Sort}
+use Rattle.std.proofs.lemmas.List.Elements.{All-nil}
+use Rattle.floyd_tree_sorts.specs.declared.sorts.Sort.{Sort, Z, Val as ValSort}
 use Rattle.floyd_tree_sorts.specs.declared.heads.Head.{Head}
-use Rattle.floyd_tree_sorts.specs.declared.heads.Head.TheVariants.{Variable, Default, Fun as FunHead}
-use Rattle.floyd_tree_sorts.specs.Sorts.{same_sort, same_sorts}
+use Rattle.floyd_tree_sorts.specs.declared.heads.Head.TheVariants.{Literal, Variable, Gv, Lv, Nil, Leaf, Signed, Unsigned, Default, Operator, Fun as FunHead}
+use Rattle.floyd_tree_sorts.specs.Sorts.{list_sort, tree_sort, same_sort, same_sorts}
 use Rattle.floyd_tree_sorts.specs.Table.{sort_at, when}
 use Rattle.floyd_tree_sorts.proofs.SortLemmas.{same_sort_true, both_true}
 use Rattle.floyd_tree.specs.Plain.{Plain, Plains, At, Done, More}
 use Rattle.floyd_tree.specs.WellSorted.{sort_of, sorts_of, with_first}
-use Rattle.floyd_tree_values.specs.Data.{Datum, number_in, HasSort, HaveSorts}
-use Rattle.floyd_tree_values.specs.BuiltIns.{Env, applied}
+use Rattle.floyd_tree_values.specs.Data.{Datum, Number, Tree, seq, number_in, HasSort, HaveSorts}
+use Rattle.floyd_tree_values.specs.Data as d
+use Rattle.floyd_tree_values.specs.BuiltIns.{Env, applied, start}
 use Rattle.floyd_tree_values.specs.Means.{Defs, Means, AllMean, built_in, none, more, is_fun}
 use Rattle.floyd_tree_values.specs.Rules.{Scope, Suits, Calls, IsAllowed, EachAllowed, AllAllowed}
-use Rattle.floyd_tree_values.proofs.Sorted.{row_sorted}
+use Rattle.floyd_tree_values.proofs.Sorted.{moved_alone, moved_number, operator_sorted}
 use Rattle.floyd_tree_values.proofs.DefaultSorts.{default_value_sorted}
 
 same_sorts_true : (a b : List Sort) → same_sorts a b ≡ true → a ≡ b
@@ -48,13 +50,19 @@ Answers defs env calls =
 module _ (defs : Defs) (scope : Scope) (env : Env) (calls : Calls) (suits : Suits scope env) (answers : Answers defs env calls) where
   -- what a head but a FUN makes of data
   applied_sorted : (head : Head) (kids : Plains) (s : Sort) (sorts : List Sort) (ds : List Datum) → is_fun head ≡ false → IsAllowed defs.structs scope calls head kids → sort_at head sorts ≡ Some s → HaveSorts sorts ds → HasSort s (applied defs.structs env head s ds)
+  applied_sorted (Literal z) kids s sorts ds f a e h = moved_alone Z s sorts (Number z) e tt
+  applied_sorted (Variable x own) kids s sorts ds f a e h = moved_alone own s sorts (env.variables x) e (suits.each x own a)
+  applied_sorted (Gv x) kids s sorts ds f a e h = moved_alone ValSort s sorts (start (env.global x)) e (omega arith)
+  applied_sorted (Lv x) kids s sorts ds f a e h = moved_alone ValSort s sorts (start (env.local x)) e (omega arith)
+  applied_sorted (Nil item) kids s sorts ds f a e h = moved_alone (list_sort item) s sorts (seq []) e (All-nil (HasSort item))
+  applied_sorted (Leaf item) kids s sorts ds f a e h = moved_alone (tree_sort item) s sorts (Tree d.Leaf) e tt
+  applied_sorted (Signed w) kids s sorts ds f a e h = moved_number s sorts (applied defs.structs env (Signed w) s ds) e tt
+  applied_sorted (Unsigned w) kids s sorts ds f a e h = moved_number s sorts (applied defs.structs env (Unsigned w) s ds) e tt
   applied_sorted (Default shape own) kids s sorts ds f a e h =
       subst (λ x. HasSort x (applied defs.structs env (Default shape own) s ds)) (when_gives _ own s e).1
       (default_value_sorted defs.structs shape (map number_in ds) own a)
   applied_sorted (FunHead name arguments own) kids s sorts ds f a e h = absurd cc
-  applied_sorted (Variable x own) kids s sorts ds f a e h =
-      row_sorted env (Variable x own) s (λ y b same. let p : x ≡ y = cc in let q : own ≡ b = cc in subst (λ z. HasSort b (env.variables z)) p (suits.each x b (a ∙ ap Option.Some q))) sorts ds e h
-  applied_sorted head kids s sorts ds f a e h = row_sorted env head s (λ y b same. absurd cc) sorts ds e h
+  applied_sorted (Operator operator) kids s sorts ds f a e h = operator_sorted operator s sorts ds e h
 
   node_value : (head : Head) (kids : Plains) (s : Sort) (sorts : List Sort) (ds : List Datum) → IsAllowed defs.structs scope calls head kids → sort_of (At head kids) ≡ Some s → sort_at head sorts ≡ Some s → AllMean defs env kids ds → HaveSorts sorts ds → Valued defs env (At head kids) s
   node_value (FunHead name arguments own) kids s sorts ds a w e m h =

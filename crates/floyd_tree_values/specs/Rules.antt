@@ -1,11 +1,12 @@
 -- What a term must be so that it has a value, and the rules that FUNs keep.
-use Rattle.std.specs.Prelude.{◌≡◌, ◌⊎◌, ℕ, List, [], ◌∷◌, ◌++◌, map, Some, None, bytes_eq, All}
+use Rattle.std.specs.Prelude.{◌≡◌, ◌⊎◌, ℕ, false, List, [], ◌∷◌, ◌++◌, map, Some, None, bytes_eq, All}
 use Rattle.std.specs.Map.{lookup}
 use Rattle.floyd_ctypes.specs.Structs.{Structs}
 use Rattle.floyd_tree_sorts.specs.declared.sorts.Sort.{Sort, ListOf', TreeOf', more_of-Sort, end_of-Sort}
 use Rattle.floyd_tree_sorts.specs.declared.heads.Head.{Head}
 use Rattle.floyd_tree_sorts.specs.declared.heads.Head.TheVariants.{Variable, Default, Fun as FunHead}
 use Rattle.floyd_tree_sorts.specs.Sorts.{list_sort, tree_sort}
+use Rattle.floyd_tree.specs.Locals.{has_local}
 use Rattle.floyd_tree.specs.Plain.{Plain, Plains, At, Done, More}
 use Rattle.floyd_tree.specs.WellSorted.{sort_of}
 use Rattle.floyd_tree_values.specs.Data.{HasSort}
@@ -89,9 +90,14 @@ pattern_scope (ConsPattern x r) s item = (x, item) ∷ (r, s) ∷ []
 pattern_scope LeafPattern s item = []
 pattern_scope (NodePattern l x r) s item = (l, s) ∷ (x, item) ∷ (r, s) ∷ []
 
+-- a term of a FUN: it fits, and speaks of no local variable, so that it means the same wherever the FUN is called
+pub record TermKeeps (structs : Structs) (scope : Scope) (calls : Calls) (s : Sort) (t : Plain) : Type 0 where
+  pub fits : Fits structs scope calls s t
+  pub no_local : has_local t ≡ false
+
 pub record CaseKeeps (structs : Structs) (before : List Fun) (f : Fun) (s item : Sort) (c : Case) : Type 0 where
   pub names : NamesDiffer c.pattern
-  pub term : Fits structs (pattern_scope c.pattern s item ++ f.arguments) (CallsFrom before f (smaller c.pattern)) f.result c.term
+  pub term : TermKeeps structs (pattern_scope c.pattern s item ++ f.arguments) (CallsFrom before f (smaller c.pattern)) f.result c.term
 
 pub data Constructor : Type 0 where
   OfNil : Constructor
@@ -126,12 +132,19 @@ FirstKeeps structs before f [] cases = ⊥
 FirstKeeps structs before f (a ∷ arguments) cases = CasesKeep structs before f a.1 cases
 
 abbrev pub BodyKeeps : Structs → List Fun → Fun → Body → Type 0
-BodyKeeps structs before f (Whole t) = Fits structs f.arguments (CallsFrom before f []) f.result t
+BodyKeeps structs before f (Whole t) = TermKeeps structs f.arguments (CallsFrom before f []) f.result t
 BodyKeeps structs before f (ByCases cases) = FirstKeeps structs before f f.arguments cases
 
--- a FUN keeps the rules, where these stand before it: its name is new, and its terms are of its sort and call what they may
+-- no name stands twice
+abbrev pub AreDistinct : List (List ℕ) → Type 0
+AreDistinct [] = Unit {0}
+AreDistinct (x ∷ names) = ¬ IsOneOf names x × AreDistinct names
+
+-- a FUN keeps the rules, where these stand before it: its name is new, its arguments have names of their own, and its
+-- terms are of its sort and call what they may
 pub record KeepsRules (structs : Structs) (before : List Fun) (f : Fun) : Type 0 where
   pub name : fun_of before f.name ≡ None
+  pub arguments : AreDistinct (map (λ a. a.0) f.arguments)
   pub body : BodyKeeps structs before f f.body
 
 abbrev pub AllKeep : Structs → List Fun → List Fun → Type 0

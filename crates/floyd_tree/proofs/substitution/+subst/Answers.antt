@@ -9,16 +9,16 @@ use Rattle.std.proofs.lemmas.Result.{err_from_is_err_and}
 use Rattle.floyd_tree.proofs.Parts.{fault_rebuilt, mentioned_below, rebuilt, substituted_all, unless_err, unless_ok}
 use Rattle.floyd_tree.proofs.substitution.+subst.Goals as goal
 
-pub all_changed-put_changed-requires : goal.all_changed-put_changed-requires
-all_changed-put_changed-requires g t c κs within =
+pub change_all-put_change-requires : goal.change_all-put_change-requires
+change_all-put_change-requires g t c κs within =
     (omega (arith, height_at c.args.terms.now c.terms.term-index c.term-item.result c.terms-test.true, ap height c.term-item.is, c.decreases), (within, c.requires))
 
-pub changed-all_changed-requires : goal.changed-all_changed-requires
-changed-all_changed-requires g t c κs within =
+pub change-change_all-requires : goal.change-change_all-requires
+change-change_all-requires g t c κs within =
     (omega (arith, heights_below c.args.t.now, ap (λ ks. heights (plains ks)) (c.as_slice.ensures ∙ c.kids.ensures.value), c.decreases), (within, c.requires))
 
-pub all_changed-returns-then-some-clause-exact : goal.all_changed-returns-then-some-clause-exact
-all_changed-returns-then-some-clause-exact g t c =
+pub change_all-returns-then-some-clause-exact : goal.change_all-returns-then-some-clause-exact
+change_all-returns-then-some-clause-exact g t c =
     let x = c.args.x.now in
     let by = c.args.by.now in
     let ts = c.args.terms.now in
@@ -28,8 +28,8 @@ all_changed-returns-then-some-clause-exact g t c =
       sym c.terms.invariant.faults ∙ ap (λ us. faults (substituted_in x by (plains us))) (drop_all i ts c.terms-test.false),
     )
 
-pub changed-returns-clause-exact : goal.changed-returns-clause-exact
-changed-returns-clause-exact g t c =
+pub change-returns-clause-exact : goal.change-returns-clause-exact
+change-returns-clause-exact g t c =
     let head = c.in_ok-head.head in
     let kids = c.in-Some.kids in
     let x = c.args.x.now in
@@ -43,8 +43,8 @@ changed-returns-clause-exact g t c =
       sym (fault_rebuilt head (plains kids) _ whole (ap faults changes.1 ∙ changes.2)) ∙ made.1,
     )
 
-pub changed-returns-in_err-assemble-clause-exact : goal.changed-returns-in_err-assemble-clause-exact
-changed-returns-in_err-assemble-clause-exact g t c =
+pub change-returns-in_err-assemble-clause-exact : goal.change-returns-in_err-assemble-clause-exact
+change-returns-in_err-assemble-clause-exact g t c =
     let head = c.in_ok-head.head in
     let kids = c.in-Some.kids in
     let x = c.args.x.now in

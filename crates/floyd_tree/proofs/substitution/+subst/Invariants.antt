@@ -4,17 +4,17 @@ use Rattle.floyd_tree.specs.Plain.{plains, height, heights, mentions_in}
 use Rattle.floyd_tree.specs.Replace.{above_in, substituted, substituted_in}
 use Rattle.floyd_tree.proofs.substitution.+subst.Given as goal
 
-abbrev pub decreases-changed : goal.decreases-changed
-decreases-changed g l = 3 * height l.t.now
+abbrev pub decreases-change : goal.decreases-change
+decreases-change g l = 3 * height l.t.now
 
-abbrev pub decreases-all_changed : goal.decreases-all_changed
-decreases-all_changed g l = 3 * heights (plains l.terms.now) + 2
+abbrev pub decreases-change_all : goal.decreases-change_all
+decreases-change_all g l = 3 * heights (plains l.terms.now) + 2
 
-abbrev pub decreases-put_changed : goal.decreases-put_changed
-decreases-put_changed g l = 3 * height l.term.now + 1
+abbrev pub decreases-put_change : goal.decreases-put_change
+decreases-put_change g l = 3 * height l.term.now + 1
 
-abbrev pub invariant-all_changed-terms : goal.invariant-all_changed-terms
-invariant-all_changed-terms g l = record {
+abbrev pub invariant-change_all-terms : goal.invariant-change_all-terms
+invariant-change_all-terms g l = record {
   items : l.all.items ≡ map (substituted l.x l.by) (take l.term-index l.terms);
   occurs : (l.some || mentions_in l.x (plains (drop l.term-index l.terms))) ≡ mentions_in l.x (plains l.terms);
   faults : faults (substituted_in l.x l.by (plains (drop l.term-index l.terms))) ≡ faults (substituted_in l.x l.by (plains l.terms));

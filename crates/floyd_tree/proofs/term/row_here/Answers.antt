@@ -1,6 +1,6 @@
 use Rattle.std.proofs.Common.{sym, arith}
-use Rattle.floyd_tree.proofs.TermLemmas.{row_sort_many}
+use Rattle.floyd_tree.proofs.TermLemmas.{row_many}
 use Rattle.floyd_tree.proofs.term.row_here.Goals as goal
 
 pub returns-in_default : goal.returns-in_default
-returns-in_default c = sym (row_sort_many c.args.head.now c.args.kids.now (omega arith))
+returns-in_default c = sym (row_many c.args.row c.args.kids.now (omega arith))

@@ -1,5 +1,6 @@
 use Rattle.std.proofs.Common.{◌≡◌, ℕ, ◌+◌, min, ◌^◌, ◌-◌, ◌∙◌, ap, arith}
-use Rattle.floyd_tree_sorts.specs.Table.{arrays, arrays_of}
+use Rattle.floyd_tree_sorts.specs.ShapeClauses.{arrays_of}
+use Rattle.floyd_tree_sorts.specs.Table.{arrays}
 use Rattle.floyd_tree_sorts.proofs.ShapeLemmas.{arrays_function}
 use Rattle.floyd_tree_sorts.proofs.shape.+arrays.Goals as goal
 

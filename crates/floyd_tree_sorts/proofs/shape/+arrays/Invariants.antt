@@ -1,5 +1,5 @@
 use Rattle.std.proofs.Common.{◌≡◌, ◌+◌, ◌-◌, ◌^◌, ◌≤◌, min, drop}
-use Rattle.floyd_tree_sorts.specs.Table.{arrays_of}
+use Rattle.floyd_tree_sorts.specs.ShapeClauses.{arrays_of}
 use Rattle.floyd_tree_sorts.proofs.shape.+arrays.Given as goal
 
 abbrev pub invariant-arrays_of-shapes : goal.invariant-arrays_of-shapes

@@ -1,0 +1,4 @@
+pub mod Data
+pub mod Givens
+pub mod Truths
+pub mod Values

@@ -1,0 +1,20 @@
+-- That the laws are true.
+use Rattle.std.specs.Prelude.{◌≡◌, ℕ, Bool, List, All, Ok}
+use Rattle.floyd_int.specs.declared.kinds.Value.{Value}
+use Rattle.floyd_tree_sorts.specs.declared.sorts.Sort.{Sort}
+use Rattle.floyd_tree.specs.Plain.{Plain}
+use Rattle.floyd_tree_values.specs.BuiltIns.{Env}
+use Rattle.floyd_tree_values.specs.Means.{Defs}
+use Rattle.floyd_tree_values.specs.Rules.{Scope, Suits, Fits, CallsOf, DefsKeep}
+use Rattle.floyd_truth.specs.Truth.{Truth, AllTrue}
+use Rattle.floyd_listlaw.specs.Instances.{PlainLaw, instance}
+
+-- the term is of some sort, and each of its nodes is allowed
+abbrev pub IsTerm : Defs → Scope → Plain → Type 0
+IsTerm defs scope t = (s : Sort) × Fits defs.structs scope (CallsOf defs.funs) s t
+
+-- What a law says of terms is true under all data: where the FUNs keep the rules, the terms fit, the environment gives each
+-- variable a datum of its sort, and the premises are true, the conclusion is true.
+abbrev pub LawsHold : Type 0
+LawsHold =
+    (defs : Defs) (specs : List ℕ → Value → Bool) (scope : Scope) (env : Env) (name : List ℕ) (terms : List Plain) (law : PlainLaw) → DefsKeep defs → Suits scope env → All (IsTerm defs scope) terms → instance name terms ≡ Ok law → AllTrue defs specs env law.premises → Truth defs specs env law.conclusion
