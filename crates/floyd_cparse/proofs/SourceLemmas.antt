@@ -3,14 +3,14 @@ use Rattle.std.proofs.Common.{◌≡◌, ℕ, true, List, Result, Ok, Err, sym, 
 use Rattle.floyd_text.specs.declared.refusal.Refusal.{Refusal}
 use Rattle.floyd_lex.specs.Token.{TokenList}
 use Rattle.floyd_grammar.specs.declared.stop.Fault.{Fault}
-use Rattle.floyd_grammar.specs.Parse.{whole}
+use Rattle.floyd_grammar.specs.ParseClauses.{whole}
 use Rattle.floyd_grammar.specs.Refused.{IsRefused}
 use Rattle.floyd_grammar.proofs.OneFault.{one_refusal}
 use Rattle.floyd_grammar.proofs.Whole.{all_found, all_refused, unique, prefix_front}
 use Rattle.floyd_cparse_trees.specs.declared.declarations.CUnit.{CUnit}
 use Rattle.floyd_cparse_tokens.specs.Tokens.{Sight}
-use Rattle.floyd_cparse.specs.Source.{tokens_of, refusal_at, IsRead, HasOneReading, BeginningsAreFronts}
-use Rattle.floyd_cparse.specs.UnitReading as r
+use Rattle.floyd_cparse.specs.Source.{tokens_of, refusal_behind, IsRead, HasOneReading, BeginningsAreFronts}
+use Rattle.floyd_cparse.specs.UnitClauses as r
 use Rattle.floyd_cparse.specs.Units as g
 use Rattle.floyd_cparse.proofs.UnitExact.{unit_exact}
 
@@ -29,7 +29,7 @@ module _ (file : ℕ) (bytes : List ℕ) (list : TokenList) where
   same_reading (Ok x) (Err q) d e = absurd (e.1.no_reading x d)
   same_reading (Err p) (Ok y) d e = absurd (d.1.no_reading y e)
   same_reading (Err p) (Err q) d e =
-      let one = one_refusal g.unit (tokens_of bytes list) (refusal_at file bytes (tokens_of bytes list)) d.0 e.0 d.1 e.1 in
+      let one = one_refusal g.unit (tokens_of bytes list) (refusal_behind file bytes (tokens_of bytes list)) d.0 e.0 d.1 e.1 in
       ap (λ (z : Refusal). Err z) (d.2 ∙ one ∙ sym e.2)
 
 pub one_reading : HasOneReading

@@ -7,8 +7,8 @@ use Rattle.floyd_lex.specs.declared.kinds.Punctuator.TheVariants as p
 use Rattle.floyd_lex.specs.declared.kinds.Keyword.TheVariants as w
 use Rattle.floyd_grammar.specs.Phrase.{Phrase}
 use Rattle.floyd_grammar.specs.Phrase as phrase
-use Rattle.floyd_grammar.specs.Parse.{Parser, is_taken, is_blamed, is_meant}
-use Rattle.floyd_grammar.specs.Parse as parse
+use Rattle.floyd_grammar.specs.ParseClauses.{Parser, is_taken, is_blamed, is_meant}
+use Rattle.floyd_grammar.specs.ParseClauses as parse
 use Rattle.floyd_grammar.proofs.Exact.{Exact, nil_left, nil_right, token, token_solid, nothing}
 use Rattle.floyd_grammar.proofs.Seq.{seq, seq_open, seq_solid, seq_solid_right, token_then, made}
 use Rattle.floyd_grammar.proofs.Either.{either, either_sure, or_left, or_right}
@@ -28,16 +28,16 @@ use Rattle.floyd_cparse.specs.declared.values.ReadGlobal.{ReadGlobal}
 use Rattle.floyd_cparse.specs.declared.values.ReadInitialiser.{ReadInitialiser}
 use Rattle.floyd_cparse_types.specs.declared.values.ReadSpecifiers.{ReadSpecifiers}
 use Rattle.floyd_cparse.specs.declared.values.ValueEnd.{ValueEnd}
-use Rattle.floyd_cparse_tokens.specs.Tokens.{without_room, Sight, Types, is_mark, is_word, is_word_kind, closing, place_if}
+use Rattle.floyd_cparse_tokens.specs.Tokens.{without_room, Sight, Types, is_mark, is_word, is_word_kind, found_or, place_if}
 use Rattle.floyd_cparse_types.specs.Types as tg
 use Rattle.floyd_cparse_types.specs.Types.{goes_on_declarator}
-use Rattle.floyd_cparse_types.specs.TypeReading as tr
+use Rattle.floyd_cparse_types.specs.TypeClauses as tr
 use Rattle.floyd_cparse_statements.specs.Statements as sg
-use Rattle.floyd_cparse_statements.specs.StatementReading as sr
+use Rattle.floyd_cparse_statements.specs.StatementClauses as sr
 use Rattle.floyd_cparse.specs.Units as g
 use Rattle.floyd_cparse.specs.Units.{limit, is_last_comma, is_separator, ReadExternal, ReadUnit, Typedefs}
-use Rattle.floyd_cparse.specs.UnitReading as r
-use Rattle.floyd_cparse.specs.UnitReading.{begins_body}
+use Rattle.floyd_cparse.specs.UnitClauses as r
+use Rattle.floyd_cparse.specs.UnitClauses.{begins_body}
 use Rattle.floyd_cparse_tokens.proofs.TokenLemmas.{and_left, or_cases, or_fails_left, or_fails_right, not_true, not_false, mark_kind, word_kind}
 use Rattle.floyd_cparse_types.proofs.TypeSets.{begins_specs, begins_dtor, begins_dtor_kind, specifier_dtor, more_specs, more_specifier, mark_ends, is_specifier_kind}
 use Rattle.floyd_cparse_types.proofs.TypeExact.{InnerExact, meant_taken, meant_blamed, offered_place, closing_place}
@@ -323,7 +323,7 @@ module _ (types : Types) where
       seq_solid (phrase.one (g.body_token external)) (λ _. phrase.◌>>=◌ (sg.block_items types (pred limit) (sg.statements types limit)) (λ items. phrase.pure (g.function_of x y items))) (token_solid (g.body_token external)) z d
 
   function_front : (external : Bool) (x : ReadSpecifiers) (y : ReadDeclarator) (s : Sight) → begins_body external s ≡ true → (g.function types external x y).front (s ∷ [])
-  function_front external x y s e = inl (inr (s, s.token.place, refl, ap (λ (z : Bool). closing 0 (place_if z s)) e))
+  function_front external x y s e = inl (inr (s, s.token.place, refl, ap (λ (z : Bool). found_or 0 (place_if z s)) e))
 
   brace_begins : (external : Bool) (s : Sight) → begins_declaration s ≡ true → begins_body external s ≡ false
   brace_begins external s e = go (is_mark p.OpenBrace s) refl
@@ -387,7 +387,7 @@ module _ (types : Types) where
   semicolon_meant s e = closing_place (is_mark p.Semicolon s) s e
 
   none_declared_front : (external : Bool) (x : ReadSpecifiers) (s : Sight) → is_mark p.Semicolon s ≡ true → (g.none_declared types external x).front (s ∷ [])
-  none_declared_front external x s e = inl (inr (s, s.token.place, refl, ap (λ (z : Bool). closing 0 (place_if z s)) e))
+  none_declared_front external x s e = inl (inr (s, s.token.place, refl, ap (λ (z : Bool). found_or 0 (place_if z s)) e))
 
   semicolon_dtor : (s : Sight) → begins_dtor s ≡ true → is_mark p.Semicolon s ≡ false
   semicolon_dtor s e = go (is_mark p.Semicolon s) refl
@@ -451,13 +451,13 @@ module _ (types : Types) where
   extern_meant s e = closing_place (is_word w.Extern s) s e
 
   extern_front : (s : Sight) → is_word w.Extern s ≡ true → (g.extern types).front (s ∷ [])
-  extern_front s e = inl (inr (s, s.token.place, refl, ap (λ (z : Bool). closing 0 (place_if z s)) e))
+  extern_front s e = inl (inr (s, s.token.place, refl, ap (λ (z : Bool). found_or 0 (place_if z s)) e))
 
   typedef_meant : (s : Sight) → is_meant (g.typedef_token s) ≡ true → is_word w.Typedef s ≡ true
   typedef_meant s e = closing_place (is_word w.Typedef s) s e
 
   typedef_front : (s : Sight) → is_word w.Typedef s ≡ true → (g.typedef types).front (s ∷ [])
-  typedef_front s e = inl (inr (s, s.token.place, refl, ap (λ (z : Bool). closing 0 (place_if z s)) e))
+  typedef_front s e = inl (inr (s, s.token.place, refl, ap (λ (z : Bool). found_or 0 (place_if z s)) e))
 
   extern_typedef : (s : Sight) → is_word w.Extern s ≡ true → is_word w.Typedef s ≡ false
   extern_typedef s e = ap (λ (z : TokenKind). is_word_kind w.Typedef z) (word_kind w.Extern s.token.kind e)

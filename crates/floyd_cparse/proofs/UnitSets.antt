@@ -5,7 +5,7 @@ use Rattle.floyd_lex.specs.declared.kinds.TokenKind.TheVariants as k
 use Rattle.floyd_lex.specs.declared.kinds.Punctuator.{Punctuator}
 use Rattle.floyd_lex.specs.declared.kinds.Punctuator.TheVariants as p
 use Rattle.floyd_lex.specs.declared.kinds.Keyword.TheVariants as w
-use Rattle.floyd_grammar.specs.Parse.{is_taken, is_blamed, is_meant}
+use Rattle.floyd_grammar.specs.ParseClauses.{is_taken, is_blamed, is_meant}
 use Rattle.floyd_cparse_types.specs.declared.values.Declared.TheVariants as of
 use Rattle.floyd_cparse.specs.declared.values.GlobalEnd.{GlobalEnd}
 use Rattle.floyd_cparse.specs.declared.values.GlobalEnd.TheVariants as end

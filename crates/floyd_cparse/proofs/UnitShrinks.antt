@@ -4,7 +4,7 @@ use Rattle.floyd_cparse_types.specs.declared.values.Declared.TheVariants as of
 use Rattle.floyd_cparse_statements.specs.Statements.{comma_token}
 use Rattle.floyd_cparse_tokens.specs.Tokens.{Types}
 use Rattle.floyd_cparse.specs.Units.{limit, separator_token}
-use Rattle.floyd_cparse.specs.UnitReading.{inits, next_value, next_typedef, next_global, external}
+use Rattle.floyd_cparse.specs.UnitClauses.{inits, next_value, next_typedef, next_global, external}
 use Rattle.floyd_cparse_tokens.proofs.Shrinks.{Eats, one_eats, then_eats, exact_shrinks, exact_eats}
 use Rattle.floyd_cparse_types.proofs.TypeShrinks.{dtor_shrinks}
 use Rattle.floyd_cparse.proofs.UnitExact.{inits_exact, next_global_exact, next_global_solid, external_exact, external_solid}

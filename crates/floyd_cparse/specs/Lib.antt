@@ -1,4 +1,4 @@
 pub mod Units
-pub mod UnitReading
+pub mod UnitClauses
 pub mod Source
 pub mod Scope

@@ -1,13 +1,14 @@
 -- What a source of C reads as: its tree, or the refusal of its tokens.
 use Rattle.std.specs.Prelude.{◌≡◌, ℕ, ◌-◌, ◌==◌, ◌||◌, if◌then◌else◌, List, [], ◌∷◌, ◌++◌, length, drop, Result, Ok, Err}
-use Rattle.floyd_text.specs.declared.place.Place.{Place}
+use Rattle.floyd_text.specs.declared.code.Code.{Code}
+use Rattle.floyd_text.specs.declared.code.Code.TheVariants as c
 use Rattle.floyd_text.specs.declared.refusal.Halt.{Halt}
 use Rattle.floyd_text.specs.declared.refusal.Halt.TheVariants.{Refused, Memory}
 use Rattle.floyd_text.specs.declared.refusal.Refusal.{Refusal}
-use Rattle.floyd_text.specs.declared.refusal.Rule.TheVariants.{Reading}
 use Rattle.floyd_text.specs.declared.refusal.Shown.{Shown}
 use Rattle.floyd_text.specs.declared.refusal.Shown.TheVariants.{Nothing, Name}
 use Rattle.floyd_text.specs.Place.{place_at}
+use Rattle.floyd_text.specs.Refusals.{refusal_at}
 use Rattle.floyd_lex.specs.Token.{TokenList, tokens_in}
 use Rattle.floyd_grammar.specs.declared.stop.Fault.{Fault}
 use Rattle.floyd_grammar.specs.Refused.{IsRefused}
@@ -19,27 +20,24 @@ use Rattle.floyd_cparse.specs.Units.{unit}
 abbrev pub tokens_of : List ℕ → TokenList → List Sight
 tokens_of bytes list = sights (tokens_in bytes list)
 
-abbrev pub code_of : ℕ → ℕ
-code_of cause = if cause == unexpected then 301 else if cause == shadowed then 304 else if cause == left_out then 303 else 302
+abbrev pub code_of : ℕ → Code
+code_of cause = if cause == unexpected then c.UnexpectedInSource else if cause == shadowed then c.TypedefShadowed else if cause == left_out then c.OutOfProfile else c.TooDeep
 
 -- What is left out of the profile and a name that is a type's are shown.
 abbrev pub shown_of : ℕ → List ℕ → Shown
 shown_of cause text = if cause == shadowed || cause == left_out then Name text else Nothing
 
-abbrev pub refusal : ℕ → Place → Shown → Refusal
-refusal code place shown = record { code = code; rule = Reading; place = place; goal = 0; shown = shown }
-
 -- the refusal at the first of the tokens that are left, for this cause, or at the end of the file where none is left
 abbrev pub refusal_before : ℕ → List ℕ → List Sight → ℕ → Refusal
-refusal_before file bytes [] cause = refusal 301 (place_at file bytes (length bytes)) Nothing
-refusal_before file bytes (s ∷ left) cause = refusal (code_of cause) s.token.place (shown_of cause s.token.text)
+refusal_before file bytes [] cause = refusal_at c.UnexpectedInSource (place_at file bytes (length bytes)) Nothing
+refusal_before file bytes (s ∷ left) cause = refusal_at (code_of cause) s.token.place (shown_of cause s.token.text)
 
 -- the refusal behind so many tokens
-abbrev pub refusal_at : ℕ → List ℕ → List Sight → ℕ → ℕ → Refusal
-refusal_at file bytes ts at cause = refusal_before file bytes (drop at ts) cause
+abbrev pub refusal_behind : ℕ → List ℕ → List Sight → ℕ → ℕ → Refusal
+refusal_behind file bytes ts at cause = refusal_before file bytes (drop at ts) cause
 
 abbrev pub refusal_of : ℕ → List ℕ → List Sight → Fault → Refusal
-refusal_of file bytes ts fault = refusal_at file bytes ts (length ts - fault.left) fault.cause
+refusal_of file bytes ts fault = refusal_behind file bytes ts (length ts - fault.left) fault.cause
 
 -- The tokens of a source read as this tree; or they do not read, and are refused at the first token with which those so
 -- far are no front, or at the end of the file, for the greatest cause there.

@@ -37,7 +37,7 @@ use Rattle.floyd_cparse.specs.declared.values.ReadGlobal.{ReadGlobal}
 use Rattle.floyd_cparse.specs.declared.values.ReadInitialiser.{ReadInitialiser}
 use Rattle.floyd_cparse_types.specs.declared.values.ReadSpecifiers.{ReadSpecifiers}
 use Rattle.floyd_cparse.specs.declared.values.ValueEnd.{ValueEnd}
-use Rattle.floyd_cparse_tokens.specs.Tokens.{without_room, Sight, Types, is_mark, is_word, is_plain, identifier_of, literal_of, next_is, unexpected, blame, offered, wanted, closing, place_if, with_name}
+use Rattle.floyd_cparse_tokens.specs.Tokens.{without_room, Sight, Types, is_mark, is_word, is_plain, identifier_of, literal_of, next_is, unexpected, blame, offer, demand, found_or, place_if, with_name}
 use Rattle.floyd_cparse_types.specs.Types.{within, after_declarator}
 use Rattle.floyd_cparse_expressions.specs.Expressions.{close_bracket}
 use Rattle.floyd_cparse_statements.specs.Statements.{statements, block_items, semicolon, comma_token, equal_token, brace_end}
@@ -78,40 +78,40 @@ after_value types room end s =
 
 -- Tokens.
 abbrev pub init_token : Types → ℕ → Sight → Result InitialiserStart ℕ
-init_token types room s = wanted types room 0 unexpected s (start_of_init types s)
+init_token types room s = demand types room 0 unexpected s (start_of_init types s)
 
 abbrev pub element_token : ℕ → Sight → Result Place ℕ
-element_token room s = offered room 0 s (place_if (is_mark p.OpenBracket s) s)
+element_token room s = offer room 0 s (place_if (is_mark p.OpenBracket s) s)
 
 abbrev pub literal_token : Types → ℕ → Sight → Result Literal ℕ
-literal_token types room s = wanted types room 1 unexpected s (literal_of s)
+literal_token types room s = demand types room 1 unexpected s (literal_of s)
 
 abbrev pub element_end : Types → ℕ → Sight → Result Place ℕ
-element_end types room s = closing (blame types room 1 unexpected s) (close_bracket s)
+element_end types room s = found_or (blame types room 1 unexpected s) (close_bracket s)
 
 abbrev pub name_token : Types → ℕ → Sight → Result Identifier ℕ
-name_token types room s = wanted types room 1 unexpected s (plain_name types s)
+name_token types room s = demand types room 1 unexpected s (plain_name types s)
 
 abbrev pub last_comma_token : Sight → Result Place ℕ
-last_comma_token s = closing unexpected (place_if (is_last_comma s) s)
+last_comma_token s = found_or unexpected (place_if (is_last_comma s) s)
 
 abbrev pub separator_token : Sight → Result Place ℕ
-separator_token s = closing unexpected (place_if (is_separator s) s)
+separator_token s = found_or unexpected (place_if (is_separator s) s)
 
 abbrev pub values_end : Types → ℕ → ValueEnd → Sight → Result Place ℕ
-values_end types room end s = closing (after_value types room end s) (place_if (is_mark p.CloseBrace s) s)
+values_end types room end s = found_or (after_value types room end s) (place_if (is_mark p.CloseBrace s) s)
 
 abbrev pub typedef_token : Sight → Result Place ℕ
-typedef_token s = closing unexpected (place_if (is_word w.Typedef s) s)
+typedef_token s = found_or unexpected (place_if (is_word w.Typedef s) s)
 
 abbrev pub extern_token : Sight → Result Place ℕ
-extern_token s = closing unexpected (place_if (is_word w.Extern s) s)
+extern_token s = found_or unexpected (place_if (is_word w.Extern s) s)
 
 abbrev pub semicolon_end : Sight → Result Place ℕ
-semicolon_end s = closing unexpected (semicolon s)
+semicolon_end s = found_or unexpected (semicolon s)
 
 abbrev pub body_token : Bool → Sight → Result Place ℕ
-body_token external s = closing unexpected (place_if (is_mark p.OpenBrace s && not external) s)
+body_token external s = found_or unexpected (place_if (is_mark p.OpenBrace s && not external) s)
 
 -- What is built.
 pub record ReadExternal : Type 0 where
@@ -195,7 +195,7 @@ unit_of all = record { externals = all.externals }
 
 -- for what a token is refused directly behind a declarator of a list
 abbrev pub typedefs_end : Typedefs → Sight → Result Place ℕ
-typedefs_end all s = closing (if is_mark p.Comma s then unexpected else after_declarator all.types of.Type limit all.end unexpected s) (semicolon s)
+typedefs_end all s = found_or (if is_mark p.Comma s then unexpected else after_declarator all.types of.Type limit all.end unexpected s) (semicolon s)
 
 abbrev pub after_global : Types → GlobalEnd → Sight → ℕ
 after_global types (end.Declarator declarator) s =
@@ -203,7 +203,7 @@ after_global types (end.Declarator declarator) s =
 after_global types (end.Value x) s = after_value types limit x s
 
 abbrev pub globals_end : Types → GlobalEnd → Sight → Result Place ℕ
-globals_end types end s = closing (after_global types end s) (semicolon s)
+globals_end types end s = found_or (after_global types end s) (semicolon s)
 
 -- `room` is left here, and `inner` is initial data one brace further in.
 module _ (types : Types) (room : ℕ) (inner : Phrase Sight ReadInitialiser) where

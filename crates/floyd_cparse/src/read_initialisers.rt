@@ -1,8 +1,8 @@
 //! Readers of initial data.
 ghost use Rattle.std.specs.Prelude.{◌≡◌, ◌≤◌, IfOk};
-ghost use Rattle.floyd_grammar.specs.Gives.{Gives};
+ghost use Rattle.floyd_grammar.specs.GivesClauses.{Gives};
 ghost use Rattle.floyd_cparse.specs.Units as u;
-ghost use Rattle.floyd_cparse.specs.UnitReading as r;
+ghost use Rattle.floyd_cparse.specs.UnitClauses as r;
 
 use crate::take_units::{
     leads_last_comma, leads_separator, take_element, take_element_end, take_init, take_last_comma,
@@ -20,7 +20,7 @@ use std::alloc::Global;
 
 /// `init`
 #[cycle(initialisers)]
-#[tactic(auto, unfolding(crate::specs::UnitReading::inits, crate::specs::UnitReading::init, crate::specs::UnitReading::after_init_start))]
+#[tactic(auto, unfolding(crate::specs::UnitClauses::inits, crate::specs::UnitClauses::init, crate::specs::UnitClauses::after_init_start))]
 pub(crate) fn read_init(
     alloc: Global,
     reader: &mut Reader<'_>,
@@ -57,7 +57,7 @@ pub(crate) fn read_init(
 
 /// `init {"," init} [","] "}"`
 #[cycle(initialisers)]
-#[tactic(auto, unfolding(crate::specs::UnitReading::values))]
+#[tactic(auto, unfolding(crate::specs::UnitClauses::values))]
 fn read_values(
     alloc: Global,
     reader: &mut Reader<'_>,
@@ -73,7 +73,7 @@ fn read_values(
 }
 
 #[cycle(initialisers)]
-#[tactic(auto, unfolding(crate::specs::UnitReading::value_list))]
+#[tactic(auto, unfolding(crate::specs::UnitClauses::value_list))]
 fn read_value_list(
     alloc: Global,
     reader: &mut Reader<'_>,
@@ -110,7 +110,7 @@ fn read_next_value(
 }
 
 /// `[","] "}"`
-#[tactic(auto, unfolding(crate::specs::UnitReading::close_list, crate::specs::UnitReading::last_comma))]
+#[tactic(auto, unfolding(crate::specs::UnitClauses::close_list, crate::specs::UnitClauses::last_comma))]
 fn read_list_end(
     reader: &mut Reader<'_>,
     types: &TypeNames,
@@ -127,7 +127,7 @@ fn read_list_end(
 }
 
 /// `["[" literal "]"]` behind `&` and a name.
-#[tactic(auto, unfolding(crate::specs::UnitReading::address, crate::specs::UnitReading::element))]
+#[tactic(auto, unfolding(crate::specs::UnitClauses::address, crate::specs::UnitClauses::element))]
 fn read_address(
     reader: &mut Reader<'_>,
     types: &TypeNames,

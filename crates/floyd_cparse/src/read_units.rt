@@ -1,10 +1,10 @@
 //! Readers of declarations and sources.
 ghost use Rattle.std.specs.Prelude.{◌≡◌, ◌≤◌, IfOk, pred, suc, OnOk, []};
-ghost use Rattle.floyd_grammar.specs.Gives.{Gives};
+ghost use Rattle.floyd_grammar.specs.GivesClauses.{Gives};
 ghost use Rattle.floyd_cparse_statements.specs.Statements as s;
-ghost use Rattle.floyd_cparse_statements.specs.StatementReading.{statements, block_items};
+ghost use Rattle.floyd_cparse_statements.specs.StatementClauses.{statements, block_items};
 ghost use Rattle.floyd_cparse.specs.Units as u;
-ghost use Rattle.floyd_cparse.specs.UnitReading as r;
+ghost use Rattle.floyd_cparse.specs.UnitClauses as r;
 ghost use Rattle.floyd_cparse_tokens.specs.Tokens.{with_name};
 ghost use Rattle.floyd_cparse.specs.Scope.{typedefs_in, external_in};
 
@@ -29,7 +29,7 @@ use sqlite_items::Items;
 use std::alloc::{AllocError, Global};
 
 /// All declarations of a source.
-#[tactic(auto, unfolding(crate::specs::UnitReading::unit, crate::specs::UnitReading::externals))]
+#[tactic(auto, unfolding(crate::specs::UnitClauses::unit, crate::specs::UnitClauses::externals))]
 pub(crate) fn read_unit(alloc: Global, reader: &mut Reader<'_>) -> Result<CUnit, Stop>
     ensures { Gives result reader.new (r.unit reader.old) }
 {
@@ -43,7 +43,7 @@ pub(crate) fn read_unit(alloc: Global, reader: &mut Reader<'_>) -> Result<CUnit,
 }
 
 /// A declaration, a typedef, whose names are in scope behind it, or a function.
-#[tactic(auto, unfolding(crate::specs::UnitReading::external))]
+#[tactic(auto, unfolding(crate::specs::UnitClauses::external))]
 fn read_external(
     alloc: Global,
     reader: &mut Reader<'_>,
@@ -62,7 +62,7 @@ fn read_external(
 }
 
 /// `"typedef" specs dtor {"," dtor} ";"`
-#[tactic(auto, unfolding(crate::specs::UnitReading::typedef, crate::specs::UnitReading::typedefs_of, crate::specs::Units::limit))]
+#[tactic(auto, unfolding(crate::specs::UnitClauses::typedef, crate::specs::UnitClauses::typedefs_of, crate::specs::Units::limit))]
 fn read_typedef(
     alloc: Global,
     reader: &mut Reader<'_>,
@@ -81,7 +81,7 @@ fn read_typedef(
 }
 
 /// `dtor {"," dtor}`, whose names are in scope behind them.
-#[tactic(auto, unfolding(crate::specs::UnitReading::typedefs, crate::specs::Units::limit))]
+#[tactic(auto, unfolding(crate::specs::UnitClauses::typedefs, crate::specs::Units::limit))]
 fn read_typedefs(
     alloc: Global,
     reader: &mut Reader<'_>,
@@ -125,7 +125,7 @@ fn add_name(alloc: Global, types: &mut TypeNames, name: Option<Name>) -> Result<
 }
 
 /// `specs [..] ";"` and `specs dtor block`
-#[tactic(auto, unfolding(crate::specs::UnitReading::specified, crate::specs::UnitReading::declared, crate::specs::UnitReading::none_declared, crate::specs::Units::limit))]
+#[tactic(auto, unfolding(crate::specs::UnitClauses::specified, crate::specs::UnitClauses::declared, crate::specs::UnitClauses::none_declared, crate::specs::Units::limit))]
 fn read_specified(
     alloc: Global,
     reader: &mut Reader<'_>,
@@ -146,7 +146,7 @@ fn read_specified(
     }))
 }
 
-#[tactic(auto, unfolding(crate::specs::UnitReading::some_declared, crate::specs::UnitReading::declared_rest, crate::specs::Units::limit))]
+#[tactic(auto, unfolding(crate::specs::UnitClauses::some_declared, crate::specs::UnitClauses::declared_rest, crate::specs::Units::limit))]
 fn read_some_declared(
     alloc: Global,
     reader: &mut Reader<'_>,
@@ -165,7 +165,7 @@ fn read_some_declared(
 }
 
 /// A block behind the declarator.
-#[tactic(auto, unfolding(crate::specs::UnitReading::function, crate::specs::Units::limit))]
+#[tactic(auto, unfolding(crate::specs::UnitClauses::function, crate::specs::Units::limit))]
 fn read_function(
     alloc: Global,
     reader: &mut Reader<'_>,
@@ -186,7 +186,7 @@ fn read_function(
 }
 
 /// `["=" init] {"," dtor ["=" init]} ";"` behind the first declarator.
-#[tactic(auto, unfolding(crate::specs::UnitReading::declaration))]
+#[tactic(auto, unfolding(crate::specs::UnitClauses::declaration))]
 fn read_declaration(
     alloc: Global,
     reader: &mut Reader<'_>,
@@ -206,7 +206,7 @@ fn read_declaration(
     }))
 }
 
-#[tactic(auto, unfolding(crate::specs::UnitReading::globals))]
+#[tactic(auto, unfolding(crate::specs::UnitClauses::globals))]
 fn read_globals(
     alloc: Global,
     reader: &mut Reader<'_>,
@@ -227,7 +227,7 @@ fn read_globals(
     Ok(Globals { items, end })
 }
 
-#[tactic(auto, unfolding(crate::specs::UnitReading::global, crate::specs::Units::limit))]
+#[tactic(auto, unfolding(crate::specs::UnitClauses::global, crate::specs::Units::limit))]
 fn read_next_global(
     alloc: Global,
     reader: &mut Reader<'_>,
@@ -241,7 +241,7 @@ fn read_next_global(
 }
 
 /// `["=" init]` behind a declarator.
-#[tactic(auto, unfolding(crate::specs::UnitReading::global_rest, crate::specs::UnitReading::global_value, crate::specs::Units::limit))]
+#[tactic(auto, unfolding(crate::specs::UnitClauses::global_rest, crate::specs::UnitClauses::global_value, crate::specs::Units::limit))]
 fn read_global_rest(
     alloc: Global,
     reader: &mut Reader<'_>,

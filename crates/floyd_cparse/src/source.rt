@@ -1,15 +1,15 @@
 ghost use Rattle.std.specs.Prelude.{◌≡◌, IfOk};
-ghost use Rattle.floyd_grammar.specs.Gives.{GivesAll};
-ghost use Rattle.floyd_grammar.specs.Parse.{whole};
+ghost use Rattle.floyd_grammar.specs.GivesClauses.{GivesAll};
+ghost use Rattle.floyd_grammar.specs.ParseClauses.{whole};
 ghost use Rattle.floyd_cparse.specs.Source as specs;
-ghost use Rattle.floyd_cparse.specs.UnitReading.{unit};
+ghost use Rattle.floyd_cparse.specs.UnitClauses.{unit};
 
 use crate::read_units::read_unit;
 use floyd_cparse_tokens::{LEFT_OUT, Reader, SHADOWED, UNEXPECTED};
 use floyd_cparse_trees::CUnit;
 use floyd_grammar::{Fault, Stop};
 use floyd_lex::Tokens;
-use floyd_text::{Halt, Name, Place, Refusal, Rule, Shown, place_of};
+use floyd_text::{Code, Halt, Name, Refusal, Shown, place_of};
 use std::alloc::{AllocError, Global};
 
 /// The syntax tree of a source of C, from its bytes and their tokens, or its first refusal: 301 at the first token with
@@ -51,35 +51,25 @@ fn refusal_of(
 {
     let at = tokens.len().saturating_sub(fault.left);
     if at == tokens.len() {
-        return Ok(refusal(301, place_of(file, bytes, bytes.len()), Shown::Nothing));
+        let place = place_of(file, bytes, bytes.len());
+        return Ok(Refusal::at(Code::UnexpectedInSource, place, Shown::Nothing));
     }
     let shown = shown_of(alloc, fault.cause, tokens.text(bytes, at))?;
-    Ok(refusal(code_of(fault.cause), tokens.place(at), shown))
+    Ok(Refusal::at(code_of(fault.cause), tokens.place(at), shown))
 }
 
-fn refusal(code: u16, place: Place, shown: Shown) -> Refusal
-    ensures { result ≡ specs.refusal code place shown }
-{
-    Refusal {
-        code,
-        rule: Rule::Reading,
-        place,
-        goal: 0,
-        shown,
-    }
-}
-
-fn code_of(cause: u8) -> u16
+/// The code of a refusal for that cause.
+fn code_of(cause: u8) -> Code
     ensures { result ≡ specs.code_of cause }
 {
     if cause == UNEXPECTED {
-        301
+        Code::UnexpectedInSource
     } else if cause == SHADOWED {
-        304
+        Code::TypedefShadowed
     } else if cause == LEFT_OUT {
-        303
+        Code::OutOfProfile
     } else {
-        302
+        Code::TooDeep
     }
 }
 

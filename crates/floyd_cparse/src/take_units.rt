@@ -2,12 +2,12 @@
 ghost use Rattle.std.specs.Prelude.{◌≡◌, ◌<◌, ◌^◌, IfOk, []};
 ghost use Rattle.floyd_cparse_statements.specs.Statements as s;
 ghost use Rattle.floyd_cparse.specs.Units as u;
-ghost use Rattle.floyd_cparse.specs.UnitReading as r;
-ghost use Rattle.floyd_grammar.specs.Parse.{leads, one};
-ghost use Rattle.floyd_grammar.specs.Gives.{Gives};
+ghost use Rattle.floyd_cparse.specs.UnitClauses as r;
+ghost use Rattle.floyd_grammar.specs.ParseClauses.{leads, one};
+ghost use Rattle.floyd_grammar.specs.GivesClauses.{Gives};
 
 use crate::values::{GlobalEnd, InitialiserStart, ValueEnd};
-use floyd_cparse_tokens::{Reader, Sight, TypeNames, UNEXPECTED, closing};
+use floyd_cparse_tokens::{Reader, Sight, TypeNames, UNEXPECTED, found_or};
 use floyd_cparse_trees::{Identifier, Literal};
 use floyd_cparse_types::{DeclaratorEnd, Declared, after_declarator};
 use floyd_grammar::Stop;
@@ -119,7 +119,7 @@ pub(crate) fn take_init(
 {
     let sight = reader.peek()?;
     let start = initialiser_start(alloc, &sight, types)?;
-    reader.take(sight.wanted(types, room, 0, UNEXPECTED, start))
+    reader.take(sight.demand(types, room, 0, UNEXPECTED, start))
 }
 
 pub(crate) fn take_element(reader: &mut Reader<'_>, room: u32) -> Result<Place, Stop>
@@ -127,7 +127,7 @@ pub(crate) fn take_element(reader: &mut Reader<'_>, room: u32) -> Result<Place, 
 {
     let sight = reader.peek()?;
     let place = sight.place_if(sight.is_mark(Punctuator::OpenBracket));
-    reader.take(sight.offered(room, 0, place))
+    reader.take(sight.offer(room, 0, place))
 }
 
 pub(crate) fn take_literal(
@@ -138,7 +138,7 @@ pub(crate) fn take_literal(
     ensures { Gives result reader.new (one (u.literal_token types.now room) reader.old) }
 {
     let sight = reader.peek()?;
-    reader.take(sight.wanted(types, room, 1, UNEXPECTED, sight.literal()))
+    reader.take(sight.demand(types, room, 1, UNEXPECTED, sight.literal()))
 }
 
 pub(crate) fn take_element_end(
@@ -151,7 +151,7 @@ pub(crate) fn take_element_end(
     let sight = reader.peek()?;
     let cause = sight.blame(types, room, 1, UNEXPECTED);
     let place = sight.place_if(sight.is_mark(Punctuator::CloseBracket));
-    reader.take(closing(cause, place))
+    reader.take(found_or(cause, place))
 }
 
 pub(crate) fn take_name(
@@ -164,7 +164,7 @@ pub(crate) fn take_name(
 {
     let sight = reader.peek()?;
     let name = plain_name(alloc, &sight, types)?;
-    reader.take(sight.wanted(types, room, 1, UNEXPECTED, name))
+    reader.take(sight.demand(types, room, 1, UNEXPECTED, name))
 }
 
 pub(crate) fn leads_last_comma(reader: &Reader<'_>) -> bool
@@ -181,7 +181,7 @@ pub(crate) fn take_last_comma(reader: &mut Reader<'_>) -> Result<Place, Stop>
 {
     let sight = reader.peek()?;
     let place = sight.place_if(is_last_comma(&sight));
-    reader.take(closing(UNEXPECTED, place))
+    reader.take(found_or(UNEXPECTED, place))
 }
 
 pub(crate) fn leads_separator(reader: &Reader<'_>) -> bool
@@ -198,7 +198,7 @@ pub(crate) fn take_separator(reader: &mut Reader<'_>) -> Result<Place, Stop>
 {
     let sight = reader.peek()?;
     let place = sight.place_if(separates_values(&sight));
-    reader.take(closing(UNEXPECTED, place))
+    reader.take(found_or(UNEXPECTED, place))
 }
 
 pub(crate) fn take_values_end(
@@ -212,7 +212,7 @@ pub(crate) fn take_values_end(
     let sight = reader.peek()?;
     let cause = after_value(&sight, types, room, end);
     let place = sight.place_if(sight.is_mark(Punctuator::CloseBrace));
-    reader.take(closing(cause, place))
+    reader.take(found_or(cause, place))
 }
 
 pub(crate) fn take_typedef(reader: &mut Reader<'_>) -> Result<Place, Stop>
@@ -220,7 +220,7 @@ pub(crate) fn take_typedef(reader: &mut Reader<'_>) -> Result<Place, Stop>
 {
     let sight = reader.peek()?;
     let place = sight.place_if(sight.is_word(Keyword::Typedef));
-    reader.take(closing(UNEXPECTED, place))
+    reader.take(found_or(UNEXPECTED, place))
 }
 
 pub(crate) fn take_extern(reader: &mut Reader<'_>) -> Result<Place, Stop>
@@ -228,7 +228,7 @@ pub(crate) fn take_extern(reader: &mut Reader<'_>) -> Result<Place, Stop>
 {
     let sight = reader.peek()?;
     let place = sight.place_if(sight.is_word(Keyword::Extern));
-    reader.take(closing(UNEXPECTED, place))
+    reader.take(found_or(UNEXPECTED, place))
 }
 
 pub(crate) fn take_semicolon_end(reader: &mut Reader<'_>) -> Result<Place, Stop>
@@ -236,7 +236,7 @@ pub(crate) fn take_semicolon_end(reader: &mut Reader<'_>) -> Result<Place, Stop>
 {
     let sight = reader.peek()?;
     let place = sight.place_if(sight.is_mark(Punctuator::Semicolon));
-    reader.take(closing(UNEXPECTED, place))
+    reader.take(found_or(UNEXPECTED, place))
 }
 
 /// A block begins, which a declaration with `extern` does not have.
@@ -251,7 +251,7 @@ pub(crate) fn take_body(reader: &mut Reader<'_>, external: bool) -> Result<Place
 {
     let sight = reader.peek()?;
     let place = sight.place_if(sight.is_mark(Punctuator::OpenBrace) && !external);
-    reader.take(closing(UNEXPECTED, place))
+    reader.take(found_or(UNEXPECTED, place))
 }
 
 #[tactic(auto, unfolding(crate::specs::Units::limit))]
@@ -269,7 +269,7 @@ pub(crate) fn take_typedefs_end(
         after_declarator(&sight, types, Declared::Type, LIMIT, end, UNEXPECTED)
     };
     let place = sight.place_if(sight.is_mark(Punctuator::Semicolon));
-    reader.take(closing(cause, place))
+    reader.take(found_or(cause, place))
 }
 
 #[tactic(auto, unfolding(crate::specs::Units::limit))]
@@ -283,5 +283,5 @@ pub(crate) fn take_globals_end(
     let sight = reader.peek()?;
     let cause = after_global(&sight, types, end);
     let place = sight.place_if(sight.is_mark(Punctuator::Semicolon));
-    reader.take(closing(cause, place))
+    reader.take(found_or(cause, place))
 }

@@ -5,7 +5,7 @@ use Rattle.floyd_text.specs.declared.place.Place.{Place}
 use Rattle.floyd_lex.specs.declared.kinds.Punctuator.TheVariants as p
 use Rattle.floyd_grammar.specs.Phrase.{Phrase}
 use Rattle.floyd_grammar.specs.Phrase as phrase
-use Rattle.floyd_grammar.specs.Parse.{Parser, is_taken, is_blamed, is_meant}
+use Rattle.floyd_grammar.specs.ParseClauses.{Parser, is_taken, is_blamed, is_meant}
 use Rattle.floyd_grammar.proofs.Exact.{Exact, token, token_solid, nothing}
 use Rattle.floyd_grammar.proofs.Seq.{seq, seq_open, seq_solid, seq_solid_right, token_then, made}
 use Rattle.floyd_grammar.proofs.Either.{either, either_sure, or_left, or_right}
@@ -32,14 +32,14 @@ use Rattle.floyd_cparse_expressions.specs.declared.values.PrefixStart.TheVariant
 use Rattle.floyd_cparse_expressions.specs.declared.values.Prefixes.{Prefixes}
 use Rattle.floyd_cparse_types.specs.declared.values.ReadDeclarator.{ReadDeclarator}
 use Rattle.floyd_cparse_types.specs.declared.values.ReadSpecifiers.{ReadSpecifiers}
-use Rattle.floyd_cparse_tokens.specs.Tokens.{without_room, is_there, Sight, Types, is_mark, is_mark_kind, closing, place_if}
+use Rattle.floyd_cparse_tokens.specs.Tokens.{without_room, is_there, Sight, Types, is_mark, is_mark_kind, found_or, place_if}
 use Rattle.floyd_cparse_types.specs.Types as tg
 use Rattle.floyd_cparse_types.specs.Types.{goes_on_declarator, latest}
-use Rattle.floyd_cparse_types.specs.TypeReading as tr
+use Rattle.floyd_cparse_types.specs.TypeClauses as tr
 use Rattle.floyd_cparse_expressions.specs.Expressions as g
 use Rattle.floyd_cparse_expressions.specs.Expressions.{Level, Whole, Conditional, goes_on, goes_on_unary, is_separator, is_postfix_op, binary_op, is_wide, assign_op}
-use Rattle.floyd_cparse_expressions.specs.ExpressionReading as r
-use Rattle.floyd_cparse_expressions.specs.ExpressionReading.{begins_prefix, is_infix, begins_assignment}
+use Rattle.floyd_cparse_expressions.specs.ExpressionClauses as r
+use Rattle.floyd_cparse_expressions.specs.ExpressionClauses.{begins_prefix, is_infix, begins_assignment}
 use Rattle.floyd_cparse_tokens.proofs.TokenLemmas.{and_left, or_cases, or_fails_left, or_fails_right, or_fails, not_true, not_false, mark_kind, there_place, closing_taken, closing_unless, offered_meant}
 use Rattle.floyd_cparse_types.proofs.TypeSets.{is_specifier, is_specifier_kind, begins_specs, begins_dtor, more_dtor, specifier_dtor, more_specifier, mark_ends, bare_specifier}
 use Rattle.floyd_cparse_types.proofs.TypeExact.{InnerExact, meant_taken, meant_blamed, offered_place, closing_place}
@@ -52,9 +52,9 @@ pub record NestedExact (types : Types) (ri : Level → Comma → ℕ → Parser 
   pub solid : (level : Level) (c : Comma) (count : ℕ) (x : Operand) → (gi level c count).reads [] x → ⊥
 
 -- what closes is taken behind an expression that it does not go on with
-closing_ends : (mark_end cause : ℕ) (test other : Bool) (s : Sight) (end : Ending) → is_meant (closing (if goes_on end s || other then 0 else cause) (place_if test s)) ≡ true → (test ≡ true → goes_on end s ≡ false) → goes_on end s ≡ false
+closing_ends : (mark_end cause : ℕ) (test other : Bool) (s : Sight) (end : Ending) → is_meant (found_or (if goes_on end s || other then 0 else cause) (place_if test s)) ≡ true → (test ≡ true → goes_on end s ≡ false) → goes_on end s ≡ false
 closing_ends n cause test other s end e h =
-    or_cases (is_taken (closing (if goes_on end s || other then 0 else cause) (place_if test s))) (is_blamed (closing (if goes_on end s || other then 0 else cause) (place_if test s))) e
+    or_cases (is_taken (found_or (if goes_on end s || other then 0 else cause) (place_if test s))) (is_blamed (found_or (if goes_on end s || other then 0 else cause) (place_if test s))) e
     (λ t. h (there_place test s (closing_taken _ (place_if test s) t)))
     (λ b. or_fails_left (goes_on end s) other (closing_unless (goes_on end s || other) cause (place_if test s) b))
 
@@ -178,10 +178,10 @@ module _ (types : Types) (room : ℕ) (ri : Level → Comma → ℕ → Parser S
 
   after_postfix_exact : (x : Operand) (z : PostfixStart) → Exact (r.after_postfix_start types room ri x z) (g.after_postfix_start types room gi x z) (λ s. true) (λ s. true) (λ y s. false)
   unfolding r.after_postfix_start
-  after_postfix_exact x (postfix_start.Index place) = closed_any (g.index_end types (pred room)) (g.indexed x place) (λ y s. false) (N.exact Whole comma.Plain (x.end.count + 1)) (λ u y d s e. index_end_meant y s e)
-  after_postfix_exact x (postfix_start.Call place) = made (g.called x place) (λ y s. false) (arguments_exact (x.end.count + 1)) (λ u y d s e. refl)
+  after_postfix_exact x (postfix_start.Index place) = closed_any (g.index_end types (pred room)) (g.subscript_of x place) (λ y s. false) (N.exact Whole comma.Plain (x.end.count + 1)) (λ u y d s e. index_end_meant y s e)
+  after_postfix_exact x (postfix_start.Call place) = made (g.call_of x place) (λ y s. false) (arguments_exact (x.end.count + 1)) (λ u y d s e. refl)
   after_postfix_exact x (postfix_start.Member op place) = loose (token_then (g.field_token types room (x.end.count + 1)) (λ field. nothing (g.member_of x op place field) (λ y s. false)))
-  after_postfix_exact x (postfix_start.Step op place) = loose (nothing (g.stepped x op place) (λ y s. false))
+  after_postfix_exact x (postfix_start.Step op place) = loose (nothing (g.step_of x op place) (λ y s. false))
 
   one_postfix_exact : (x : Operand) → Exact (r.one_postfix types room ri x) (g.one_postfix types room gi x) (λ s. is_taken (g.postfix_token room x.end s)) (λ s. is_blamed (g.postfix_token room x.end s)) (λ y s. false)
   unfolding r.one_postfix
@@ -200,19 +200,19 @@ module _ (types : Types) (room : ℕ) (ri : Level → Comma → ℕ → Parser S
 
   inner_expr_exact : (count : ℕ) → Exact (r.inner_expr types room ri count) (g.inner_expr types room gi count) (λ s. true) (λ s. true) (λ y s. false)
   unfolding r.inner_expr
-  inner_expr_exact count = closed_any (g.inner_end types (pred room)) g.parenthesised (λ y s. false) (N.exact Whole comma.LeftOut count) (λ u y d s e. inner_end_meant y s e)
+  inner_expr_exact count = closed_any (g.inner_end types (pred room)) g.parentheses_of (λ y s. false) (N.exact Whole comma.LeftOut count) (λ u y d s e. inner_end_meant y s e)
 
   inner_expr_solid : (count : ℕ) (x : Operand) → (g.inner_expr types room gi count).reads [] x → ⊥
-  inner_expr_solid count x d = seq_solid (gi Whole comma.LeftOut count) (λ y. phrase.◌>>=◌ (phrase.one (g.inner_end types (pred room) y)) (λ _. phrase.pure (g.parenthesised y))) (N.solid Whole comma.LeftOut count) x d
+  inner_expr_solid count x d = seq_solid (gi Whole comma.LeftOut count) (λ y. phrase.◌>>=◌ (phrase.one (g.inner_end types (pred room) y)) (λ _. phrase.pure (g.parentheses_of y))) (N.solid Whole comma.LeftOut count) x d
 
   size_exact : (place : Place) (count : ℕ) → Exact (r.size types room ri place count) (g.size types room gi place count) (λ s. true) (λ s. true) more_unary
   unfolding r.size
-  size_exact place count = loose (token_then (g.open_token types room count) (λ _. made (g.sized place) more_unary (typename_exact count) (λ u x d s e. refl)))
+  size_exact place count = loose (token_then (g.open_token types room count) (λ _. made (g.size_operand place) more_unary (typename_exact count) (λ u x d s e. refl)))
 
   -- an operand
   after_operand_exact : (count : ℕ) (x : OperandStart) → Exact (r.after_operand_start types room ri count x) (g.after_operand_start types room gi count x) (λ s. true) (λ s. true) more_unary
   unfolding r.after_operand_start
-  after_operand_exact count (start.Name name) = postfixes_exact (g.named name count)
+  after_operand_exact count (start.Name name) = postfixes_exact (g.name_operand name count)
   after_operand_exact count (start.Literal literal) = postfixes_exact (g.constant literal count)
   after_operand_exact count (start.Open place) = seq (inner_expr_exact count) postfixes_exact (inner_expr_solid count) (λ u x d s e. refl) (λ u x d s e. refl) (λ u x y d d' s e. refl)
   after_operand_exact count (start.SizeOf place) = size_exact place count
@@ -232,10 +232,10 @@ module _ (types : Types) (room : ℕ) (ri : Level → Comma → ℕ → Parser S
   unfolding r.unary bad_unary
   unary_exact count =
       seq_open (prefixes_exact count)
-      (λ all. made (g.all_prefixed all.items) more_unary (operand_exact all) (λ u x d s e. subst (λ (z : Bool). (is_postfix_op s && not z) ≡ false) (prefixed_type all.items x) e))
+      (λ all. made (g.with_prefixes all.items) more_unary (operand_exact all) (λ u x d s e. subst (λ (z : Bool). (is_postfix_op s && not z) ≡ false) (prefixed_type all.items x) e))
       (λ u all d s e. operand_meant types all.cast room (all.count + length all.items) s (meant_taken (g.operand_token types all.cast room (all.count + length all.items) s) e))
       (λ u all d s e. operand_meant types all.cast room (all.count + length all.items) s (meant_blamed (g.operand_token types all.cast room (all.count + length all.items) s) e))
-      (λ u all y d d' s e. absurd (seq_solid (g.operand types room gi all) (λ x. phrase.pure (g.all_prefixed all.items x)) (operand_solid all) y d'))
+      (λ u all y d d' s e. absurd (seq_solid (g.operand types room gi all) (λ x. phrase.pure (g.with_prefixes all.items x)) (operand_solid all) y d'))
       (begins_unary types) (λ s. begins_prefix types room (g.no_prefixes count) s || is_blamed (g.operand_token types false room (count + 0) s))
       (λ s e. or_left (is_there (g.start_of_prefix types s)) (is_there (g.start_of_operand types s)) (and_left (is_there (g.start_of_prefix types s)) _ e))
       (λ s e. or_left (begins_prefix types room (g.no_prefixes count) s) _ e)
@@ -244,8 +244,8 @@ module _ (types : Types) (room : ℕ) (ri : Level → Comma → ℕ → Parser S
 
   pub unary_solid : (count : ℕ) (x : Operand) → (g.unary types room gi count).reads [] x → ⊥
   unary_solid count x d =
-      seq_solid_right (g.prefixes types room gi count) (λ all. phrase.◌>>=◌ (g.operand types room gi all) (λ y. phrase.pure (g.all_prefixed all.items y)))
-      (λ all y e. seq_solid (g.operand types room gi all) (λ z. phrase.pure (g.all_prefixed all.items z)) (operand_solid all) y e) x d
+      seq_solid_right (g.prefixes types room gi count) (λ all. phrase.◌>>=◌ (g.operand types room gi all) (λ y. phrase.pure (g.with_prefixes all.items y)))
+      (λ all y e. seq_solid (g.operand types room gi all) (λ z. phrase.pure (g.with_prefixes all.items z)) (operand_solid all) y e) x d
 
   -- binary operators
   operators_solid : (level count : ℕ) (x : Operand) → (g.operators types room gi level count).reads [] x → ⊥
@@ -296,10 +296,10 @@ module _ (types : Types) (room : ℕ) (ri : Level → Comma → ℕ → Parser S
   otherwise_exact : (c : Comma) (condition : Operand) (place : Place) (middle : Operand) → Exact (r.otherwise types room ri c condition place middle) (g.otherwise types room gi c condition place middle) (λ s. is_taken (g.colon_token types c (pred room) middle s)) (λ s. is_blamed (g.colon_token types c (pred room) middle s)) more_conditional
   unfolding r.otherwise
   otherwise_exact c condition place middle =
-      token_then (g.colon_token types c (pred room) middle) (λ _. made (g.chosen condition place middle) more_conditional (N.exact Conditional c middle.end.count) (λ u x d s e. e))
+      token_then (g.colon_token types c (pred room) middle) (λ _. made (g.choice_of condition place middle) more_conditional (N.exact Conditional c middle.end.count) (λ u x d s e. e))
 
   otherwise_solid : (c : Comma) (condition : Operand) (place : Place) (middle x : Operand) → (g.otherwise types room gi c condition place middle).reads [] x → ⊥
-  otherwise_solid c condition place middle x d = seq_solid (phrase.one (g.colon_token types c (pred room) middle)) (λ _. phrase.◌>>=◌ (gi Conditional c middle.end.count) (λ last. phrase.pure (g.chosen condition place middle last))) (token_solid (g.colon_token types c (pred room) middle)) x d
+  otherwise_solid c condition place middle x d = seq_solid (phrase.one (g.colon_token types c (pred room) middle)) (λ _. phrase.◌>>=◌ (gi Conditional c middle.end.count) (λ last. phrase.pure (g.choice_of condition place middle last))) (token_solid (g.colon_token types c (pred room) middle)) x d
 
   choice_exact : (c : Comma) (condition : Operand) → Exact (r.choice types room ri c condition) (g.choice types room gi c condition) (λ s. is_taken (g.question_token room condition s)) (λ s. is_blamed (g.question_token room condition s)) more_conditional
   unfolding r.choice
@@ -374,13 +374,13 @@ module _ (types : Types) (room : ℕ) (ri : Level → Comma → ℕ → Parser S
 
   expr_exact : (c : Comma) (count : ℕ) → Exact (r.expr types room ri c count) (g.expr types room gi c count) (begins_unary types) (bad_unary count) more_expr
   unfolding r.expr more_chain
-  expr_exact c count = made g.assigned more_expr (chain_exact c count) (λ u x d s e. assigned_ends x s e)
+  expr_exact c count = made g.chain_operand more_expr (chain_exact c count) (λ u x d s e. assigned_ends x s e)
 
   chain_solid : (c : Comma) (count : ℕ) (x : Chain) → (g.chain types room gi c count).reads [] x → ⊥
   chain_solid c count x d = seq_solid (g.conditional types room gi c count) (λ first. phrase.folded g.plus_target (g.assignment types room gi c) (g.first_target first)) (conditional_solid c count) x d
 
   expr_solid : (c : Comma) (count : ℕ) (x : Operand) → (g.expr types room gi c count).reads [] x → ⊥
-  expr_solid c count x d = seq_solid (g.chain types room gi c count) (λ all. phrase.pure (g.assigned all)) (chain_solid c count) x d
+  expr_solid c count x d = seq_solid (g.chain types room gi c count) (λ all. phrase.pure (g.chain_operand all)) (chain_solid c count) x d
 
   at_level_exact : (level : Level) (c : Comma) (count : ℕ) → Exact (r.at_level types room ri level c count) (g.at_level types room gi level c count) (begins_unary types) (bad_unary count) (more_level level)
   unfolding r.at_level

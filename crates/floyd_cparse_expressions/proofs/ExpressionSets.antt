@@ -9,7 +9,7 @@ use Rattle.floyd_lex.specs.declared.kinds.Punctuator.{Punctuator}
 use Rattle.floyd_lex.specs.declared.kinds.Punctuator.TheVariants as p
 use Rattle.floyd_lex.specs.declared.kinds.Keyword.TheVariants as w
 use Rattle.floyd_lex.specs.Token.{Token}
-use Rattle.floyd_grammar.specs.Parse.{is_taken, is_meant}
+use Rattle.floyd_grammar.specs.ParseClauses.{is_taken, is_meant}
 use Rattle.floyd_grammar.proofs.Either.{or_left, or_right}
 use Rattle.floyd_cparse_trees.specs.declared.expressions.BinaryOp.{BinaryOp}
 use Rattle.floyd_cparse_trees.specs.declared.expressions.MemberOp.{MemberOp}
@@ -23,12 +23,12 @@ use Rattle.floyd_cparse_trees.specs.declared.expressions.Prefix.{Prefix}
 use Rattle.floyd_cparse_trees.specs.declared.expressions.Prefix.TheVariants as before
 use Rattle.floyd_cparse_expressions.specs.declared.values.Prefixes.{Prefixes}
 use Rattle.floyd_cparse_expressions.specs.declared.values.Target.{Target}
-use Rattle.floyd_cparse_tokens.specs.Tokens.{is_plain, is_type, identifier_of, literal_of, literal_of_kind, opens_type, begins_type, is_there, Sight, Types, is_mark, is_word, is_name, is_mark_kind, is_word_kind, is_name_kind, offered, wanted}
+use Rattle.floyd_cparse_tokens.specs.Tokens.{is_plain, is_type, identifier_of, literal_of, literal_of_kind, opens_type, begins_type, is_there, Sight, Types, is_mark, is_word, is_name, is_mark_kind, is_word_kind, is_name_kind, offer, demand}
 use Rattle.floyd_cparse_trees.specs.declared.expressions.PrefixOp.{PrefixOp}
 use Rattle.floyd_cparse_expressions.specs.declared.values.OperandStart.TheVariants as start
 use Rattle.floyd_cparse_expressions.specs.declared.values.PrefixStart.TheVariants as prefix_start
-use Rattle.floyd_cparse_expressions.specs.Expressions.{start_of_literal, with_place_prefix, Level, Whole, Conditional, prefix_op, step_op, member_op, binary_op, assign_op, is_postfix_op, is_wide, goes_on_unary, goes_on, start_of_prefix, start_of_operand, prefix_token, operand_token, postfix_token, start_of_postfix, start_of_member, infix_at, assigning_at, assigning_of, assign_token, assigned, all_prefixed, prefixed_end, behind_prefix}
-use Rattle.floyd_cparse_expressions.specs.ExpressionReading.{begins_prefix, is_infix, begins_assignment}
+use Rattle.floyd_cparse_expressions.specs.Expressions.{start_of_literal, with_place_prefix, Level, Whole, Conditional, prefix_op, step_op, member_op, binary_op, assign_op, is_postfix_op, is_wide, goes_on_unary, goes_on, start_of_prefix, start_of_operand, prefix_token, operand_token, postfix_token, start_of_postfix, start_of_member, infix_at, assigning_at, assigning_of, assign_token, chain_operand, with_prefixes, end_with_prefixes, behind_prefix}
+use Rattle.floyd_cparse_expressions.specs.ExpressionClauses.{begins_prefix, is_infix, begins_assignment}
 use Rattle.floyd_cparse_tokens.proofs.TokenLemmas.{and_left, and_both, apart, or_cases, or_fails_left, or_fails_right, or_fails, mark_kind, wanted_taken, offered_meant}
 
 -- a token with which an unary expression begins
@@ -198,17 +198,17 @@ assignment_stops chain s e = go (is_there (assigning_of s)) (not (is_wide chain.
 pub expression_conditional : (x : Operand) (s : Sight) → goes_on x.end s ≡ false → more_conditional x s ≡ false
 expression_conditional x s e = or_fails_left (goes_on_unary x.end s || is_there (binary_op s.token.kind) || is_mark p.Question s) (is_there (assign_op s.token.kind) && not (is_wide x.end.form)) e
 
-pub assigned_ends : (chain : Chain) (s : Sight) → goes_on (assigned chain).end s ≡ false → goes_on chain.last.end s ≡ false
+pub assigned_ends : (chain : Chain) (s : Sight) → goes_on (chain_operand chain).end s ≡ false → goes_on chain.last.end s ≡ false
 assigned_ends chain s e = go chain.targets e
   where
-    go : (ts : List Target) → goes_on (assigned (record chain { targets = ts })).end s ≡ false → goes_on chain.last.end s ≡ false
+    go : (ts : List Target) → goes_on (chain_operand (record chain { targets = ts })).end s ≡ false → goes_on chain.last.end s ≡ false
     go [] q = q
     go (t ∷ ts) q = q
 
 pub assign_meant : (room : ℕ) (chain : Chain) (s : Sight) → is_meant (assign_token room chain s) ≡ true → begins_assignment chain s ≡ true
 assign_meant room chain s e = go (is_wide chain.last.end.form) e
   where
-    go : (a : Bool) → is_meant (if a then Err 0 else offered room chain.last.end.count s (assigning_of s)) ≡ true → (is_there (assigning_of s) && not a) ≡ true
+    go : (a : Bool) → is_meant (if a then Err 0 else offer room chain.last.end.count s (assigning_of s)) ≡ true → (is_there (assigning_of s) && not a) ≡ true
     go true h = absurd (true≢false (sym h))
     go false h = and_both (is_there (assigning_of s)) true (offered_meant room chain.last.end.count s (assigning_of s) h) refl
 
@@ -216,31 +216,31 @@ assign_meant room chain s e = go (is_wide chain.last.end.form) e
 pub prefix_meant : (types : Types) (room : ℕ) (all : Prefixes) (s : Sight) → is_meant (prefix_token types room (all.count + length all.items) s) ≡ true → begins_prefix types room all s ≡ true
 prefix_meant types room all s e = go (nat_lt room (all.count + length all.items)) e
   where
-    go : (a : Bool) → is_meant (if a then Err 0 else offered room (all.count + length all.items) s (start_of_prefix types s)) ≡ true → (is_there (start_of_prefix types s) && not a) ≡ true
+    go : (a : Bool) → is_meant (if a then Err 0 else offer room (all.count + length all.items) s (start_of_prefix types s)) ≡ true → (is_there (start_of_prefix types s) && not a) ≡ true
     go true h = absurd (true≢false (sym h))
     go false h = and_both (is_there (start_of_prefix types s)) true (offered_meant room (all.count + length all.items) s (start_of_prefix types s) h) refl
 
 pub operand_meant : (types : Types) (cast : Bool) (room count : ℕ) (s : Sight) → is_meant (operand_token types cast room count s) ≡ true → (is_there (start_of_prefix types s) && not (nat_lt room count)) ≡ false
 operand_meant types cast room count s e = go (is_there (start_of_prefix types s) && not (nat_lt room count)) e
   where
-    go : (a : Bool) → is_meant (if a then Err 0 else wanted types room count (behind_prefix cast s) s (start_of_operand types s)) ≡ true → a ≡ false
+    go : (a : Bool) → is_meant (if a then Err 0 else demand types room count (behind_prefix cast s) s (start_of_operand types s)) ≡ true → a ≡ false
     go true h = absurd (true≢false (sym h))
     go false h = refl
 
 pub operand_taken : (types : Types) (cast : Bool) (room count : ℕ) (s : Sight) → is_taken (operand_token types cast room count s) ≡ true → is_there (start_of_operand types s) ≡ true
 operand_taken types cast room count s e = go (is_there (start_of_prefix types s) && not (nat_lt room count)) e
   where
-    go : (a : Bool) → is_taken (if a then Err 0 else wanted types room count (behind_prefix cast s) s (start_of_operand types s)) ≡ true → is_there (start_of_operand types s) ≡ true
+    go : (a : Bool) → is_taken (if a then Err 0 else demand types room count (behind_prefix cast s) s (start_of_operand types s)) ≡ true → is_there (start_of_operand types s) ≡ true
     go true h = absurd (true≢false (sym h))
     go false h = wanted_taken types room count (behind_prefix cast s) s (start_of_operand types s) h
 
-ends_type : (items : List Prefix) (end : Ending) → (prefixed_end items end).type_name ≡ end.type_name
+ends_type : (items : List Prefix) (end : Ending) → (end_with_prefixes items end).type_name ≡ end.type_name
 ends_type [] end = refl
 ends_type (before.Op op place ∷ items) end = ends_type items end
 ends_type (before.Step op place ∷ items) end = ends_type items end
 ends_type (before.Cast type place ∷ items) end = ends_type items end
 
-pub prefixed_type : (items : List Prefix) (x : Operand) → (all_prefixed items x).end.type_name ≡ x.end.type_name
+pub prefixed_type : (items : List Prefix) (x : Operand) → (with_prefixes items x).end.type_name ≡ x.end.type_name
 prefixed_type [] x = refl
 prefixed_type (first ∷ items) x = ends_type (first ∷ items) x.end
 
@@ -267,7 +267,7 @@ postfix_there s e = go (is_mark p.OpenBracket s) (is_mark p.OpenParen s) e
 pub postfix_meant : (room : ℕ) (end : Ending) (s : Sight) → is_meant (postfix_token room end s) ≡ true → goes_on_unary end s ≡ true
 postfix_meant room end s e = go end.type_name e
   where
-    go : (a : Bool) → is_meant (if a then Err 0 else offered room end.count s (start_of_postfix s)) ≡ true → (is_postfix_op s && not a) ≡ true
+    go : (a : Bool) → is_meant (if a then Err 0 else offer room end.count s (start_of_postfix s)) ≡ true → (is_postfix_op s && not a) ≡ true
     go true h = absurd (true≢false (sym h))
     go false h = and_both (is_postfix_op s) true (postfix_there s (offered_meant room end.count s (start_of_postfix s) h)) refl
 

@@ -1,7 +1,7 @@
 -- Readers of operators put no tokens back.
 use Rattle.std.proofs.Common.{◌≡◌, ℕ, zero, suc, ◌+◌, ◌-◌, pred, length, refl, sub-one}
 use Rattle.floyd_lex.specs.declared.kinds.Punctuator.TheVariants as p
-use Rattle.floyd_grammar.specs.Parse.{Parser, one, pure, folded, ◌>>=◌}
+use Rattle.floyd_grammar.specs.ParseClauses.{Parser, one, pure, folded, ◌>>=◌}
 use Rattle.floyd_cparse_expressions.specs.declared.values.Chain.{Chain}
 use Rattle.floyd_cparse_expressions.specs.declared.values.Comma.{Comma}
 use Rattle.floyd_cparse_expressions.specs.declared.values.Comma.TheVariants as comma
@@ -11,7 +11,7 @@ use Rattle.floyd_cparse_expressions.specs.declared.values.OperandStart.{OperandS
 use Rattle.floyd_cparse_expressions.specs.declared.values.OperandStart.TheVariants as start
 use Rattle.floyd_cparse_tokens.specs.Tokens.{Sight, Types, is_mark}
 use Rattle.floyd_cparse_expressions.specs.Expressions.{Whole, Conditional, inside, operand_token, infix_token, question_token, colon_token, assign_token, inner_end, open_token, plus_prefix, no_prefixes}
-use Rattle.floyd_cparse_expressions.specs.ExpressionReading.{nested, assignment, conditional, after_condition, choice, otherwise, operators, unary, operand, after_operand_start, size, inner_expr, prefixes, one_prefix, begins_prefix, is_infix, join}
+use Rattle.floyd_cparse_expressions.specs.ExpressionClauses.{nested, assignment, conditional, after_condition, choice, otherwise, operators, unary, operand, after_operand_start, size, inner_expr, prefixes, one_prefix, begins_prefix, is_infix, join}
 use Rattle.floyd_cparse_tokens.proofs.Shrinks.{Shrinks, Eats, shrinks, one_eats, pure_shrinks, then_shrinks, then_eats, either_shrinks, folded_shrinks}
 use Rattle.floyd_cparse_expressions.proofs.PrefixShrinks.{nested_shrinks, typename_shrinks, one_prefix_eats}
 use Rattle.floyd_cparse_expressions.proofs.PostfixShrinks.{postfixes_shrinks}

@@ -1,7 +1,7 @@
 -- Readers of postfix operators put no tokens back.
 use Rattle.std.proofs.Common.{ℕ, ◌+◌, pred}
 use Rattle.floyd_lex.specs.declared.kinds.Punctuator.TheVariants as p
-use Rattle.floyd_grammar.specs.Parse.{Parser, one, ◌>>◌}
+use Rattle.floyd_grammar.specs.ParseClauses.{Parser, one, ◌>>◌}
 use Rattle.floyd_cparse_expressions.specs.declared.values.Arguments.{Arguments}
 use Rattle.floyd_cparse_expressions.specs.declared.values.Comma.TheVariants as comma
 use Rattle.floyd_cparse_expressions.specs.declared.values.Operand.{Operand}
@@ -10,7 +10,7 @@ use Rattle.floyd_cparse_expressions.specs.declared.values.PostfixStart.TheVarian
 use Rattle.floyd_cparse_tokens.specs.Tokens.{Sight, Types, is_mark}
 use Rattle.floyd_cparse_types.specs.Types.{latest}
 use Rattle.floyd_cparse_expressions.specs.Expressions.{Whole, goes_on_unary, postfix_token, argument_comma, arguments_end, no_arguments_end, index_end, field_token, plus_argument, first_argument}
-use Rattle.floyd_cparse_expressions.specs.ExpressionReading.{nested, postfixes, one_postfix, after_postfix_start, arguments, no_arguments, some_arguments, argument_list}
+use Rattle.floyd_cparse_expressions.specs.ExpressionClauses.{nested, postfixes, one_postfix, after_postfix_start, arguments, no_arguments, some_arguments, argument_list}
 use Rattle.floyd_cparse_tokens.proofs.Shrinks.{Shrinks, Eats, shrinks, one_eats, pure_shrinks, then_shrinks, then_eats, either_shrinks, folded_shrinks}
 use Rattle.floyd_cparse_expressions.proofs.PrefixShrinks.{nested_shrinks}
 

@@ -7,7 +7,7 @@ use Rattle.floyd_cparse_expressions.specs.declared.values.PrefixStart.{PrefixSta
 use Rattle.floyd_cparse_expressions.specs.declared.values.PrefixStart.TheVariants as prefix_start
 use Rattle.floyd_cparse_tokens.specs.Tokens.{Types}
 use Rattle.floyd_cparse_expressions.specs.Expressions.{Level, prefix_token, typename_end}
-use Rattle.floyd_cparse_expressions.specs.ExpressionReading.{nested, one_prefix, after_prefix_start, typename, typename_declarator}
+use Rattle.floyd_cparse_expressions.specs.ExpressionClauses.{nested, one_prefix, after_prefix_start, typename, typename_declarator}
 use Rattle.floyd_cparse_expressions.proofs.ExpressionExact.{nested_exact}
 use Rattle.floyd_cparse_tokens.proofs.Shrinks.{Shrinks, Eats, shrinks, one_eats, pure_shrinks, then_shrinks, then_eats, exact_shrinks}
 use Rattle.floyd_cparse_types.proofs.TypeShrinks.{specs_eats, dtor_shrinks}

@@ -61,7 +61,7 @@ use Rattle.floyd_cparse_expressions.specs.declared.values.Prefixes.{Prefixes}
 use Rattle.floyd_cparse_types.specs.declared.values.ReadDeclarator.{ReadDeclarator}
 use Rattle.floyd_cparse_types.specs.declared.values.ReadSpecifiers.{ReadSpecifiers}
 use Rattle.floyd_cparse_expressions.specs.declared.values.Target.{Target}
-use Rattle.floyd_cparse_tokens.specs.Tokens.{without_room, is_there, Sight, Types, is_mark, is_word, is_name, is_plain, identifier_of, literal_of, opens_type, unexpected, left_out, too_deep, is_deep, blame, offered, wanted, closing, place_if}
+use Rattle.floyd_cparse_tokens.specs.Tokens.{without_room, is_there, Sight, Types, is_mark, is_word, is_name, is_plain, identifier_of, literal_of, opens_type, unexpected, left_out, too_deep, is_deep, blame, offer, demand, found_or, place_if}
 use Rattle.floyd_cparse_types.specs.Types.{within, after_declarator, latest}
 
 -- The operators of each kind.
@@ -205,7 +205,7 @@ start_of_prefix types s =
 
 -- Where the next token is too deep, the operand refuses it.
 abbrev pub prefix_token : Types → ℕ → ℕ → Sight → Result PrefixStart ℕ
-prefix_token types room count s = if nat_lt room count then Err unexpected else offered room count s (start_of_prefix types s)
+prefix_token types room count s = if nat_lt room count then Err unexpected else offer room count s (start_of_prefix types s)
 
 abbrev pub start_of_literal : Option Literal → Option OperandStart
 start_of_literal None = None
@@ -226,7 +226,7 @@ behind_prefix cast s = if cast && is_mark p.OpenBrace s then left_out else unexp
 abbrev pub operand_token : Types → Bool → ℕ → ℕ → Sight → Result OperandStart ℕ
 operand_token types cast room count s =
     if is_there (start_of_prefix types s) && not (nat_lt room count) then Err unexpected
-    else wanted types room count (behind_prefix cast s) s (start_of_operand types s)
+    else demand types room count (behind_prefix cast s) s (start_of_operand types s)
 
 -- a postfix operator
 abbrev pub start_of_member : Place → Option MemberOp → Option StepOp → Option PostfixStart
@@ -242,7 +242,7 @@ start_of_postfix s =
 
 -- none stands behind `sizeof` and a type name
 abbrev pub postfix_token : ℕ → Ending → Sight → Result PostfixStart ℕ
-postfix_token room end s = if end.type_name then Err unexpected else offered room end.count s (start_of_postfix s)
+postfix_token room end s = if end.type_name then Err unexpected else offer room end.count s (start_of_postfix s)
 
 abbrev pub field_name : Sight → Option Identifier
 field_name s = if is_name s then Some (identifier_of s) else None
@@ -253,10 +253,10 @@ infix_at level place None = None
 infix_at level place (Some op) = if nat_lt op.0 level || nat_lt level op.0 then None else Some record { op = op.1; place = place }
 
 abbrev pub infix_token : ℕ → ℕ → Operand → Sight → Result Infix ℕ
-infix_token room level left s = offered room left.end.count s (infix_at level s.token.place (binary_op s.token.kind))
+infix_token room level left s = offer room left.end.count s (infix_at level s.token.place (binary_op s.token.kind))
 
 abbrev pub question_token : ℕ → Operand → Sight → Result Place ℕ
-question_token room condition s = offered room condition.end.count s (place_if (is_mark p.Question s) s)
+question_token room condition s = offer room condition.end.count s (place_if (is_mark p.Question s) s)
 
 -- ":" stands inside its "?"
 abbrev pub colon_token : Types → Comma → ℕ → Operand → Sight → Result Place ℕ
@@ -272,31 +272,31 @@ abbrev pub assigning_of : Sight → Option Assigning
 assigning_of s = assigning_at s.token.place (assign_op s.token.kind)
 
 abbrev pub assign_token : ℕ → Chain → Sight → Result Assigning ℕ
-assign_token room chain s = if is_wide chain.last.end.form then Err unexpected else offered room chain.last.end.count s (assigning_of s)
+assign_token room chain s = if is_wide chain.last.end.form then Err unexpected else offer room chain.last.end.count s (assigning_of s)
 
 abbrev pub typename_end : Types → ℕ → ReadDeclarator → Sight → Result Place ℕ
-typename_end types room declarator s = closing (after_declarator types of.Nothing room declarator.end unexpected s) (close_paren s)
+typename_end types room declarator s = found_or (after_declarator types of.Nothing room declarator.end unexpected s) (close_paren s)
 
 abbrev pub argument_comma : ℕ → Arguments → Sight → Result Place ℕ
-argument_comma room all s = offered room all.end.count s (place_if (is_mark p.Comma s) s)
+argument_comma room all s = offer room all.end.count s (place_if (is_mark p.Comma s) s)
 
 abbrev pub arguments_end : Types → ℕ → Arguments → Sight → Result Place ℕ
-arguments_end types room all s = closing (after_expression types comma.Separates room all.end s) (close_paren s)
+arguments_end types room all s = found_or (after_expression types comma.Separates room all.end s) (close_paren s)
 
 abbrev pub no_arguments_end : Sight → Result Place ℕ
-no_arguments_end s = closing unexpected (close_paren s)
+no_arguments_end s = found_or unexpected (close_paren s)
 
 abbrev pub index_end : Types → ℕ → Operand → Sight → Result Place ℕ
-index_end types room x s = closing (after_expression types comma.Plain room x.end s) (close_bracket s)
+index_end types room x s = found_or (after_expression types comma.Plain room x.end s) (close_bracket s)
 
 abbrev pub inner_end : Types → ℕ → Operand → Sight → Result Place ℕ
-inner_end types room x s = closing (after_expression types comma.LeftOut room x.end s) (close_paren s)
+inner_end types room x s = found_or (after_expression types comma.LeftOut room x.end s) (close_paren s)
 
 abbrev pub field_token : Types → ℕ → ℕ → Sight → Result Identifier ℕ
-field_token types room count s = wanted types room count unexpected s (field_name s)
+field_token types room count s = demand types room count unexpected s (field_name s)
 
 abbrev pub open_token : Types → ℕ → ℕ → Sight → Result Place ℕ
-open_token types room count s = wanted types room count unexpected s (place_if (is_mark p.OpenParen s) s)
+open_token types room count s = demand types room count unexpected s (place_if (is_mark p.OpenParen s) s)
 
 -- What is built.
 -- with a prefix before what ends so
@@ -305,28 +305,28 @@ with_prefix (before.Op op place) end = record end { form = form.Unary }
 with_prefix (before.Step op place) end = record end { form = form.Effect; effect = true }
 with_prefix (before.Cast type_name place) end = record end { form = form.Unary }
 
-abbrev pub prefixed_end : List Prefix → Ending → Ending
-prefixed_end [] end = end
-prefixed_end (first ∷ more) end = with_prefix first (prefixed_end more end)
+abbrev pub end_with_prefixes : List Prefix → Ending → Ending
+end_with_prefixes [] end = end
+end_with_prefixes (first ∷ more) end = with_prefix first (end_with_prefixes more end)
 
-abbrev pub all_prefixed : List Prefix → Operand → Operand
-all_prefixed [] x = x
-all_prefixed (first ∷ more) x = record { tree = e.Prefixed (first ∷ more) x.tree; end = prefixed_end (first ∷ more) x.end }
+abbrev pub with_prefixes : List Prefix → Operand → Operand
+with_prefixes [] x = x
+with_prefixes (first ∷ more) x = record { tree = e.Prefixed (first ∷ more) x.tree; end = end_with_prefixes (first ∷ more) x.end }
 
-abbrev pub joined : Infix → Operand → Operand → Operand
-joined op x y = record { tree = e.Binary x.tree op.op op.place y.tree; end = record y.end { form = form.Wide } }
+abbrev pub binary_of : Infix → Operand → Operand → Operand
+binary_of op x y = record { tree = e.Binary x.tree op.op op.place y.tree; end = record y.end { form = form.Wide } }
 
-abbrev pub chosen : Operand → Place → Operand → Operand → Operand
-chosen condition place middle otherwise = record { tree = e.Conditional condition.tree place middle.tree otherwise.tree; end = record otherwise.end { form = form.Wide } }
+abbrev pub choice_of : Operand → Place → Operand → Operand → Operand
+choice_of condition place middle otherwise = record { tree = e.Conditional condition.tree place middle.tree otherwise.tree; end = record otherwise.end { form = form.Wide } }
 
-abbrev pub assigned_to : List Target → CExpr → CExpr
-assigned_to [] value = value
-assigned_to (target ∷ targets) value = e.Assign target.tree target.by.op target.by.place (assigned_to targets value)
+abbrev pub assign_all : List Target → CExpr → CExpr
+assign_all [] value = value
+assign_all (target ∷ targets) value = e.Assign target.tree target.by.op target.by.place (assign_all targets value)
 
-abbrev pub assigned : Chain → Operand
-assigned chain = elim chain.targets [
+abbrev pub chain_operand : Chain → Operand
+chain_operand chain = elim chain.targets [
   | [] ↦ chain.last
-  | target ∷ targets ↦ record { tree = e.Assign target.tree target.by.op target.by.place (assigned_to targets chain.last.tree); end = record chain.last.end { effect = true } }
+  | target ∷ targets ↦ record { tree = e.Assign target.tree target.by.op target.by.place (assign_all targets chain.last.tree); end = record chain.last.end { effect = true } }
 ]
 
 abbrev pub plus_target : Chain → Assigning × Operand → Chain
@@ -350,29 +350,29 @@ plus_argument all next = record { items = all.items ++ next.tree ∷ []; end = n
 abbrev pub nothing_given : ℕ → Arguments
 nothing_given count = record { items = []; end = plain_end count }
 
-abbrev pub indexed : Operand → Place → Operand → Operand
-indexed x place index = record { tree = e.Index x.tree place index.tree; end = plain_end index.end.count }
+abbrev pub subscript_of : Operand → Place → Operand → Operand
+subscript_of x place index = record { tree = e.Index x.tree place index.tree; end = plain_end index.end.count }
 
-abbrev pub called : Operand → Place → Arguments → Operand
-called x place all = record { tree = e.Call x.tree place all.items; end = effect_end all.end.count }
+abbrev pub call_of : Operand → Place → Arguments → Operand
+call_of x place all = record { tree = e.Call x.tree place all.items; end = effect_end all.end.count }
 
 abbrev pub member_of : Operand → MemberOp → Place → Identifier → Operand
 member_of x op place field = record { tree = e.Member x.tree op place field; end = plain_end (x.end.count + 1) }
 
-abbrev pub stepped : Operand → StepOp → Place → Operand
-stepped x op place = record { tree = e.PostfixStep x.tree op place; end = effect_end (x.end.count + 1) }
+abbrev pub step_of : Operand → StepOp → Place → Operand
+step_of x op place = record { tree = e.PostfixStep x.tree op place; end = effect_end (x.end.count + 1) }
 
-abbrev pub named : Identifier → ℕ → Operand
-named name count = record { tree = e.Name name; end = plain_end count }
+abbrev pub name_operand : Identifier → ℕ → Operand
+name_operand name count = record { tree = e.Name name; end = plain_end count }
 
 abbrev pub constant : Literal → ℕ → Operand
 constant literal count = record { tree = e.Literal literal; end = plain_end count }
 
-abbrev pub parenthesised : Operand → Operand
-parenthesised x = record { tree = e.Parenthesised x.tree; end = plain_end x.end.count }
+abbrev pub parentheses_of : Operand → Operand
+parentheses_of x = record { tree = e.Parenthesised x.tree; end = plain_end x.end.count }
 
-abbrev pub sized : Place → TypeName × ℕ → Operand
-sized place type = record { tree = e.SizeOf place type.0; end = size_end type.1 }
+abbrev pub size_operand : Place → TypeName × ℕ → Operand
+size_operand place type = record { tree = e.SizeOf place type.0; end = size_end type.1 }
 
 abbrev pub type_name : ReadSpecifiers → ReadDeclarator → TypeName × ℕ
 type_name specifiers declarator = (record { specifiers = specifiers.tree; declarator = declarator.tree }, declarator.end.count)
@@ -436,14 +436,14 @@ module _ (types : Types) (room : ℕ) (inner : Level → Comma → ℕ → Phras
   after_postfix_start x (postfix_start.Index place) = do
     index ← inner Whole comma.Plain (x.end.count + 1)
     _ ← one (index_end types (pred room) index)
-    pure (indexed x place index)
+    pure (subscript_of x place index)
   after_postfix_start x (postfix_start.Call place) = do
     all ← arguments (x.end.count + 1)
-    pure (called x place all)
+    pure (call_of x place all)
   after_postfix_start x (postfix_start.Member op place) = do
     field ← one (field_token types room (x.end.count + 1))
     pure (member_of x op place field)
-  after_postfix_start x (postfix_start.Step op place) = pure (stepped x op place)
+  after_postfix_start x (postfix_start.Step op place) = pure (step_of x op place)
 
   abbrev pub one_postfix : Operand → Phrase Sight Operand
   one_postfix x = one (postfix_token room x.end) >>= after_postfix_start x
@@ -456,15 +456,15 @@ module _ (types : Types) (room : ℕ) (inner : Level → Comma → ℕ → Phras
   inner_expr count = do
     x ← inner Whole comma.LeftOut count
     _ ← one (inner_end types (pred room) x)
-    pure (parenthesised x)
+    pure (parentheses_of x)
 
   -- "sizeof" "(" typename ")"
   abbrev pub size : Place → ℕ → Phrase Sight Operand
-  size place count = one (open_token types room count) >> (typename count >>= λ type. pure (sized place type))
+  size place count = one (open_token types room count) >> (typename count >>= λ type. pure (size_operand place type))
 
   -- postfix | "sizeof" "(" typename ")"
   abbrev pub after_operand_start : ℕ → OperandStart → Phrase Sight Operand
-  after_operand_start count (start.Name name) = postfixes (named name count)
+  after_operand_start count (start.Name name) = postfixes (name_operand name count)
   after_operand_start count (start.Literal literal) = postfixes (constant literal count)
   after_operand_start count (start.Open place) = inner_expr count >>= postfixes
   after_operand_start count (start.SizeOf place) = size place count
@@ -477,19 +477,19 @@ module _ (types : Types) (room : ℕ) (inner : Level → Comma → ℕ → Phras
   unary count = do
     all ← prefixes count
     x ← operand all
-    pure (all_prefixed all.items x)
+    pure (with_prefixes all.items x)
 
   -- binary operators of so many levels
   abbrev pub operators : ℕ → ℕ → Phrase Sight Operand
   operators zero count = unary count
-  operators (suc level) count = grouped joined (infix_token room (suc level)) (λ left op. operators level (left.end.count + 1)) (operators level count)
+  operators (suc level) count = grouped binary_of (infix_token room (suc level)) (λ left op. operators level (left.end.count + 1)) (operators level count)
 
   -- "?" expr ":" conditional
   abbrev pub otherwise : Comma → Operand → Place → Operand → Phrase Sight Operand
   otherwise c condition place middle = do
     _ ← one (colon_token types c (pred room) middle)
     last ← inner Conditional c middle.end.count
-    pure (chosen condition place middle last)
+    pure (choice_of condition place middle last)
 
   abbrev pub choice : Comma → Operand → Phrase Sight Operand
   choice c condition = one (question_token room condition) >>= λ place. inner Whole (inside c) condition.end.count >>= otherwise c condition place
@@ -509,7 +509,7 @@ module _ (types : Types) (room : ℕ) (inner : Level → Comma → ℕ → Phras
   chain c count = conditional c count >>= λ first. folded plus_target (assignment c) (first_target first)
 
   abbrev pub expr : Comma → ℕ → Phrase Sight Operand
-  expr c count = chain c count >>= λ all. pure (assigned all)
+  expr c count = chain c count >>= λ all. pure (chain_operand all)
 
   abbrev pub at_level : Level → Comma → ℕ → Phrase Sight Operand
   at_level Whole c count = expr c count
@@ -530,7 +530,7 @@ effect_token types c room end x s = effect_by types c room end x s (assigning_of
 
 -- an assignment is an effect that ends where its value ends
 abbrev pub effect_end_token : Types → Comma → ℕ → (Sight → Option Place) → Operand → Sight → Result Place ℕ
-effect_end_token types c room end value s = closing (after_expression types c room (record value.end { effect = true }) s) (end s)
+effect_end_token types c room end value s = found_or (after_expression types c room (record value.end { effect = true }) s) (end s)
 
 abbrev pub assign : Operand → Assigning → Operand → CExpr
 assign x by value = e.Assign x.tree by.op by.place value.tree

@@ -69,8 +69,8 @@ fn with_prefix(prefix: &Prefix, end: Ending) -> Ending
     }
 }
 
-fn prefixed_end(prefixes: &[Prefix], end: Ending) -> Ending
-    ensures { result ≡ e.prefixed_end prefixes.now end }
+fn end_with_prefixes(prefixes: &[Prefix], end: Ending) -> Ending
+    ensures { result ≡ e.end_with_prefixes prefixes.now end }
 {
     let mut end = end;
     let mut at = prefixes.len();
@@ -81,17 +81,17 @@ fn prefixed_end(prefixes: &[Prefix], end: Ending) -> Ending
     end
 }
 
-pub(crate) fn all_prefixed(
+pub(crate) fn with_prefixes(
     alloc: Global,
     prefixes: Items<Prefix>,
     x: Operand,
 ) -> Result<Operand, AllocError>
-    ensures { IfOk result (λ y. y ≡ e.all_prefixed prefixes x) }
+    ensures { IfOk result (λ y. y ≡ e.with_prefixes prefixes x) }
 {
     if prefixes.is_empty() {
         return Ok(x);
     }
-    let end = prefixed_end(prefixes.as_slice(), x.end);
+    let end = end_with_prefixes(prefixes.as_slice(), x.end);
     let operand = Boxed::new(alloc, x.tree)?;
     Ok(Operand {
         tree: CExpr::Prefixed { prefixes, operand },
@@ -99,13 +99,13 @@ pub(crate) fn all_prefixed(
     })
 }
 
-pub(crate) fn joined(
+pub(crate) fn binary_of(
     alloc: Global,
     op: Infix,
     x: Operand,
     y: Operand,
 ) -> Result<Operand, AllocError>
-    ensures { IfOk result (λ z. z ≡ e.joined op x y) }
+    ensures { IfOk result (λ z. z ≡ e.binary_of op x y) }
 {
     let end = wide(y.end);
     Ok(Operand {
@@ -119,14 +119,14 @@ pub(crate) fn joined(
     })
 }
 
-pub(crate) fn chosen(
+pub(crate) fn choice_of(
     alloc: Global,
     condition: Operand,
     place: Place,
     middle: Operand,
     last: Operand,
 ) -> Result<Operand, AllocError>
-    ensures { IfOk result (λ z. z ≡ e.chosen condition place middle last) }
+    ensures { IfOk result (λ z. z ≡ e.choice_of condition place middle last) }
 {
     let end = wide(last.end);
     Ok(Operand {
@@ -151,8 +151,8 @@ fn assign_to(alloc: Global, target: Target, value: CExpr) -> Result<CExpr, Alloc
     })
 }
 
-fn assigned_to(alloc: Global, targets: Items<Target>, value: CExpr) -> Result<CExpr, AllocError>
-    ensures { IfOk result (λ z. z ≡ e.assigned_to targets value) }
+fn assign_all(alloc: Global, targets: Items<Target>, value: CExpr) -> Result<CExpr, AllocError>
+    ensures { IfOk result (λ z. z ≡ e.assign_all targets value) }
 {
     let mut targets = targets;
     let mut value = value;
@@ -162,13 +162,13 @@ fn assigned_to(alloc: Global, targets: Items<Target>, value: CExpr) -> Result<CE
     Ok(value)
 }
 
-pub(crate) fn assigned(alloc: Global, chain: Chain) -> Result<Operand, AllocError>
-    ensures { IfOk result (λ z. z ≡ e.assigned chain) }
+pub(crate) fn chain_operand(alloc: Global, chain: Chain) -> Result<Operand, AllocError>
+    ensures { IfOk result (λ z. z ≡ e.chain_operand chain) }
 {
     let end = chain.last.end;
     let effect = end.effect || !chain.targets.is_empty();
     Ok(Operand {
-        tree: assigned_to(alloc, chain.targets, chain.last.tree)?,
+        tree: assign_all(alloc, chain.targets, chain.last.tree)?,
         end: Ending { effect, ..end },
     })
 }
@@ -234,13 +234,13 @@ pub(crate) fn nothing_given(alloc: Global, count: u32) -> Arguments
     }
 }
 
-pub(crate) fn indexed(
+pub(crate) fn subscript_of(
     alloc: Global,
     x: Operand,
     place: Place,
     index: Operand,
 ) -> Result<Operand, AllocError>
-    ensures { IfOk result (λ z. z ≡ e.indexed x place index) }
+    ensures { IfOk result (λ z. z ≡ e.subscript_of x place index) }
 {
     let end = plain_end(index.end.count);
     Ok(Operand {
@@ -253,13 +253,13 @@ pub(crate) fn indexed(
     })
 }
 
-pub(crate) fn called(
+pub(crate) fn call_of(
     alloc: Global,
     x: Operand,
     place: Place,
     all: Arguments,
 ) -> Result<Operand, AllocError>
-    ensures { IfOk result (λ z. z ≡ e.called x place all) }
+    ensures { IfOk result (λ z. z ≡ e.call_of x place all) }
 {
     let end = effect_end(all.end.count);
     Ok(Operand {
@@ -294,14 +294,14 @@ pub(crate) fn member_of(
     })
 }
 
-pub(crate) fn stepped(
+pub(crate) fn step_of(
     alloc: Global,
     x: Operand,
     op: StepOp,
     place: Place,
 ) -> Result<Operand, AllocError>
     requires { x.end.count < 1000 }
-    ensures { IfOk result (λ z. z ≡ e.stepped x op place) }
+    ensures { IfOk result (λ z. z ≡ e.step_of x op place) }
 {
     let end = effect_end(x.end.count + 1);
     Ok(Operand {
@@ -314,8 +314,8 @@ pub(crate) fn stepped(
     })
 }
 
-pub(crate) fn named(name: Identifier, count: u32) -> Operand
-    ensures { result ≡ e.named name count }
+pub(crate) fn name_operand(name: Identifier, count: u32) -> Operand
+    ensures { result ≡ e.name_operand name count }
 {
     Operand {
         tree: CExpr::Name(name),
@@ -332,8 +332,8 @@ pub(crate) fn constant(literal: Literal, count: u32) -> Operand
     }
 }
 
-pub(crate) fn parenthesised(alloc: Global, x: Operand) -> Result<Operand, AllocError>
-    ensures { IfOk result (λ z. z ≡ e.parenthesised x) }
+pub(crate) fn parentheses_of(alloc: Global, x: Operand) -> Result<Operand, AllocError>
+    ensures { IfOk result (λ z. z ≡ e.parentheses_of x) }
 {
     let end = plain_end(x.end.count);
     Ok(Operand {
@@ -342,13 +342,13 @@ pub(crate) fn parenthesised(alloc: Global, x: Operand) -> Result<Operand, AllocE
     })
 }
 
-pub(crate) fn sized(
+pub(crate) fn size_operand(
     alloc: Global,
     place: Place,
     type_name: TypeName,
     count: u32,
 ) -> Result<Operand, AllocError>
-    ensures { IfOk result (λ z. z ≡ e.sized place (type_name, count)) }
+    ensures { IfOk result (λ z. z ≡ e.size_operand place (type_name, count)) }
 {
     Ok(Operand {
         tree: CExpr::SizeOf {

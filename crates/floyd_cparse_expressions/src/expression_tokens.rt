@@ -2,8 +2,8 @@
 ghost use Rattle.std.specs.Prelude.{◌≡◌, ◌<◌, ◌^◌, ◌≤◌, ◌+◌, ◌&&◌, ◌||◌, not, nat_lt, length, IfOk, IsTrue};
 ghost use Rattle.floyd_cparse_expressions.specs.Expressions as e;
 ghost use Rattle.floyd_cparse_tokens.specs.Tokens.{is_there};
-ghost use Rattle.floyd_cparse_expressions.specs.ExpressionReading as r;
-ghost use Rattle.floyd_grammar.specs.Parse.{leads};
+ghost use Rattle.floyd_cparse_expressions.specs.ExpressionClauses as r;
+ghost use Rattle.floyd_grammar.specs.ParseClauses.{leads};
 
 use crate::operators::{assigning, binary_op, member_op, prefix_op, step_op};
 use crate::values::{

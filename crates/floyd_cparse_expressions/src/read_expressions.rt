@@ -2,14 +2,15 @@
 ghost use Rattle.std.specs.Prelude.{◌<◌, ◌≤◌, ◌+◌, suc, length};
 ghost use Rattle.floyd_cparse_tokens.specs.Tokens.{is_mark, place_if};
 ghost use Rattle.floyd_cparse_expressions.specs.Expressions.{Whole, Conditional};
-ghost use Rattle.floyd_cparse_expressions.specs.ExpressionReading as r;
-ghost use Rattle.floyd_cparse_expressions.specs.ExpressionReading.{nested};
+ghost use Rattle.floyd_cparse_expressions.specs.ExpressionClauses as r;
+ghost use Rattle.floyd_cparse_expressions.specs.ExpressionClauses.{nested};
 ghost use Rattle.floyd_cparse_expressions.specs.declared.values.PostfixStart.TheVariants as postfix_start;
-ghost use Rattle.floyd_grammar.specs.Gives.{Gives};
+ghost use Rattle.floyd_grammar.specs.GivesClauses.{Gives};
 
 use crate::build_expressions::{
-    all_prefixed, assign, assigned, called, chosen, constant, first_argument, indexed, joined,
-    member_of, named, nothing_given, parenthesised, plus_argument, plus_target, sized, stepped,
+    assign, binary_of, call_of, chain_operand, choice_of, constant, first_argument, member_of,
+    name_operand, nothing_given, parentheses_of, plus_argument, plus_target, size_operand, step_of,
+    subscript_of, with_prefixes,
 };
 use crate::expression_tokens::{leads_assignment, leads_infix, leads_postfix};
 use crate::read_prefixes::{read_prefixes, read_typename};
@@ -19,10 +20,10 @@ use crate::take_expressions::{
     take_parenthesis_end, take_postfix, take_question,
 };
 use crate::values::{
-    Arguments, Chain, Comma, EffectNext, Operand, OperandStart, PostfixStart, Prefixes,
+    Arguments, Chain, Comma, EffectNext, MemberMark, Operand, OperandStart, PostfixStart, Prefixes,
 };
 use floyd_cparse_tokens::{Reader, TypeNames, inside};
-use floyd_cparse_trees::{CExpr, MemberOp};
+use floyd_cparse_trees::CExpr;
 use floyd_grammar::Stop;
 use floyd_lex::Punctuator;
 use floyd_text::Place;
@@ -31,7 +32,7 @@ use std::alloc::Global;
 
 /// C's assignment expression.
 #[cycle(expressions)]
-#[tactic(auto, unfolding(crate::specs::ExpressionReading::nested, crate::specs::ExpressionReading::at_level, crate::specs::ExpressionReading::expr))]
+#[tactic(auto, unfolding(crate::specs::ExpressionClauses::nested, crate::specs::ExpressionClauses::at_level, crate::specs::ExpressionClauses::expr))]
 pub fn read_expr(
     alloc: Global,
     reader: &mut Reader<'_>,
@@ -47,12 +48,12 @@ pub fn read_expr(
         return reader.refuse_without_room(count);
     }
     let chain = read_chain(alloc, reader, types, comma, room - 1, count)?;
-    Ok(assigned(alloc, chain)?)
+    Ok(chain_operand(alloc, chain)?)
 }
 
 /// C's conditional expression.
 #[cycle(expressions)]
-#[tactic(auto, unfolding(crate::specs::ExpressionReading::nested, crate::specs::ExpressionReading::at_level))]
+#[tactic(auto, unfolding(crate::specs::ExpressionClauses::nested, crate::specs::ExpressionClauses::at_level))]
 fn read_inner_conditional(
     alloc: Global,
     reader: &mut Reader<'_>,
@@ -72,7 +73,7 @@ fn read_inner_conditional(
 
 /// `conditional { ("=" | op "=") conditional }`
 #[cycle(expressions)]
-#[tactic(auto, unfolding(crate::specs::ExpressionReading::chain))]
+#[tactic(auto, unfolding(crate::specs::ExpressionClauses::chain))]
 fn read_chain(
     alloc: Global,
     reader: &mut Reader<'_>,
@@ -99,7 +100,7 @@ fn read_chain(
 
 /// `operators [ "?" expr ":" conditional ]`
 #[cycle(expressions)]
-#[tactic(auto, unfolding(crate::specs::ExpressionReading::conditional, crate::specs::ExpressionReading::after_condition, crate::specs::ExpressionReading::choice, crate::specs::ExpressionReading::otherwise))]
+#[tactic(auto, unfolding(crate::specs::ExpressionClauses::conditional, crate::specs::ExpressionClauses::after_condition, crate::specs::ExpressionClauses::choice, crate::specs::ExpressionClauses::otherwise))]
 fn read_conditional(
     alloc: Global,
     reader: &mut Reader<'_>,
@@ -126,12 +127,12 @@ fn read_conditional(
     )?;
     take_colon(reader, types, comma, inside(room), &middle)?;
     let last = read_inner_conditional(alloc, reader, types, comma, room, middle.end.count)?;
-    Ok(chosen(alloc, condition, place, middle, last)?)
+    Ok(choice_of(alloc, condition, place, middle, last)?)
 }
 
 /// Binary operators of so many levels.
 #[cycle(expressions)]
-#[tactic(auto, unfolding(crate::specs::ExpressionReading::operators))]
+#[tactic(auto, unfolding(crate::specs::ExpressionClauses::operators))]
 fn read_operators(
     alloc: Global,
     reader: &mut Reader<'_>,
@@ -151,14 +152,14 @@ fn read_operators(
     'each: while leads_infix(reader, level) {
         let op = take_infix(reader, room, level, &left)?;
         let right = read_operators(alloc, reader, types, room, level - 1, left.end.count + 1)?;
-        left = joined(alloc, op, left, right)?;
+        left = binary_of(alloc, op, left, right)?;
     }
     Ok(left)
 }
 
 /// Prefixes before an operand.
 #[cycle(expressions)]
-#[tactic(auto, unfolding(crate::specs::ExpressionReading::unary))]
+#[tactic(auto, unfolding(crate::specs::ExpressionClauses::unary))]
 fn read_unary(
     alloc: Global,
     reader: &mut Reader<'_>,
@@ -171,12 +172,12 @@ fn read_unary(
 {
     let all = read_prefixes(alloc, reader, types, room, count)?;
     let operand = read_operand(alloc, reader, types, room, &all)?;
-    Ok(all_prefixed(alloc, all.items, operand)?)
+    Ok(with_prefixes(alloc, all.items, operand)?)
 }
 
 /// A name, a constant or an expression in parentheses with what stands behind it, or `sizeof` with its type name.
 #[cycle(expressions)]
-#[tactic(auto, unfolding(crate::specs::ExpressionReading::operand, crate::specs::ExpressionReading::after_operand_start))]
+#[tactic(auto, unfolding(crate::specs::ExpressionClauses::operand, crate::specs::ExpressionClauses::after_operand_start))]
 fn read_operand(
     alloc: Global,
     reader: &mut Reader<'_>,
@@ -191,7 +192,7 @@ fn read_operand(
     let count = all.count as u64 + all.items.len() as u64;
     match take_operand(alloc, reader, types, all.cast, room, count)? {
         OperandStart::Name(name) => {
-            read_postfixes(alloc, reader, types, room, named(name, all.count))
+            read_postfixes(alloc, reader, types, room, name_operand(name, all.count))
         }
         OperandStart::Literal(literal) => {
             read_postfixes(alloc, reader, types, room, constant(literal, all.count))
@@ -203,7 +204,7 @@ fn read_operand(
 
 /// `expr ")"` behind `(`, and the postfix operators behind it.
 #[cycle(expressions)]
-#[tactic(auto, unfolding(crate::specs::ExpressionReading::inner_expr))]
+#[tactic(auto, unfolding(crate::specs::ExpressionClauses::inner_expr))]
 fn read_parenthesised(
     alloc: Global,
     reader: &mut Reader<'_>,
@@ -216,12 +217,12 @@ fn read_parenthesised(
 {
     let inner = read_expr(alloc, reader, types, Comma::LeftOut, room, count)?;
     take_parenthesis_end(reader, types, inside(room), &inner)?;
-    let operand = parenthesised(alloc, inner)?;
+    let operand = parentheses_of(alloc, inner)?;
     read_postfixes(alloc, reader, types, room, operand)
 }
 
 /// `"(" typename ")"` behind `sizeof`.
-#[tactic(auto, unfolding(crate::specs::ExpressionReading::size))]
+#[tactic(auto, unfolding(crate::specs::ExpressionClauses::size))]
 fn read_size(
     alloc: Global,
     reader: &mut Reader<'_>,
@@ -235,12 +236,12 @@ fn read_size(
 {
     take_open(reader, types, room, count)?;
     let (name, end) = read_typename(alloc, reader, types, room, count)?;
-    Ok(sized(alloc, place, name, end)?)
+    Ok(size_operand(alloc, place, name, end)?)
 }
 
 /// The postfix operators behind an operand.
 #[cycle(expressions)]
-#[tactic(auto, unfolding(crate::specs::ExpressionReading::postfixes))]
+#[tactic(auto, unfolding(crate::specs::ExpressionClauses::postfixes))]
 fn read_postfixes(
     alloc: Global,
     reader: &mut Reader<'_>,
@@ -260,7 +261,7 @@ fn read_postfixes(
 
 /// `"[" expr "]" | "(" [expr {"," expr}] ")" | "." name | "->" name | "++" | "--"`
 #[cycle(expressions)]
-#[tactic(auto, unfolding(crate::specs::ExpressionReading::one_postfix, crate::specs::ExpressionReading::after_postfix_start))]
+#[tactic(auto, unfolding(crate::specs::ExpressionClauses::one_postfix, crate::specs::ExpressionClauses::after_postfix_start))]
 fn read_postfix(
     alloc: Global,
     reader: &mut Reader<'_>,
@@ -274,16 +275,23 @@ fn read_postfix(
     match take_postfix(reader, room, operand.end)? {
         PostfixStart::Index(place) => read_index(alloc, reader, types, room, operand, place),
         PostfixStart::Call(place) => read_call(alloc, reader, types, room, operand, place),
-        PostfixStart::Member(op, place) => read_member(
-            alloc, reader, types, room, operand, op, place,
-        ),
-        PostfixStart::Step(op, place) => Ok(stepped(alloc, operand, op, place)?),
+        PostfixStart::Member(op, place) => {
+            read_member(
+                alloc,
+                reader,
+                types,
+                room,
+                operand,
+                MemberMark { op, place },
+            )
+        }
+        PostfixStart::Step(op, place) => Ok(step_of(alloc, operand, op, place)?),
     }
 }
 
 /// `expr "]"` behind an operand and `[`.
 #[cycle(expressions)]
-#[tactic(auto, unfolding(crate::specs::ExpressionReading::after_postfix_start))]
+#[tactic(auto, unfolding(crate::specs::ExpressionClauses::after_postfix_start))]
 fn read_index(
     alloc: Global,
     reader: &mut Reader<'_>,
@@ -305,12 +313,12 @@ fn read_index(
         operand.end.count + 1,
     )?;
     take_index_end(reader, types, inside(room), &index)?;
-    Ok(indexed(alloc, operand, place, index)?)
+    Ok(subscript_of(alloc, operand, place, index)?)
 }
 
 /// `[expr {"," expr}] ")"` behind an operand and `(`.
 #[cycle(expressions)]
-#[tactic(auto, unfolding(crate::specs::ExpressionReading::after_postfix_start))]
+#[tactic(auto, unfolding(crate::specs::ExpressionClauses::after_postfix_start))]
 fn read_call(
     alloc: Global,
     reader: &mut Reader<'_>,
@@ -324,31 +332,30 @@ fn read_call(
     ensures { Gives result reader.new (r.after_postfix_start types.now room (nested types.now room) operand (postfix_start.Call place) reader.old) }
 {
     let all = read_arguments(alloc, reader, types, room, operand.end.count + 1)?;
-    Ok(called(alloc, operand, place, all)?)
+    Ok(call_of(alloc, operand, place, all)?)
 }
 
 /// A field behind an operand and `.` or `->`.
-#[tactic(auto, unfolding(crate::specs::ExpressionReading::after_postfix_start))]
+#[tactic(auto, unfolding(crate::specs::ExpressionClauses::after_postfix_start))]
 fn read_member(
     alloc: Global,
     reader: &mut Reader<'_>,
     types: &TypeNames,
     room: u32,
     operand: Operand,
-    op: MemberOp,
-    place: Place,
+    mark: MemberMark,
 ) -> Result<Operand, Stop>
     requires room { room ≤ 200 }
     requires count { operand.end.count ≤ room + 1 }
-    ensures { Gives result reader.new (r.after_postfix_start types.now room (nested types.now room) operand (postfix_start.Member op place) reader.old) }
+    ensures { Gives result reader.new (r.after_postfix_start types.now room (nested types.now room) operand (postfix_start.Member mark.op mark.place) reader.old) }
 {
     let field = take_field(alloc, reader, types, room, operand.end.count + 1)?;
-    Ok(member_of(alloc, operand, op, place, field)?)
+    Ok(member_of(alloc, operand, mark.op, mark.place, field)?)
 }
 
 /// `[expr {"," expr}] ")"`
 #[cycle(expressions)]
-#[tactic(auto, unfolding(crate::specs::ExpressionReading::arguments, crate::specs::ExpressionReading::no_arguments, crate::specs::ExpressionReading::some_arguments))]
+#[tactic(auto, unfolding(crate::specs::ExpressionClauses::arguments, crate::specs::ExpressionClauses::no_arguments, crate::specs::ExpressionClauses::some_arguments))]
 fn read_arguments(
     alloc: Global,
     reader: &mut Reader<'_>,
@@ -370,7 +377,7 @@ fn read_arguments(
 
 /// `expr {"," expr}`
 #[cycle(expressions)]
-#[tactic(auto, unfolding(crate::specs::ExpressionReading::argument_list))]
+#[tactic(auto, unfolding(crate::specs::ExpressionClauses::argument_list))]
 fn read_argument_list(
     alloc: Global,
     reader: &mut Reader<'_>,
@@ -407,7 +414,7 @@ fn read_expr_in(
 }
 
 /// An effect, and the mark behind it.
-#[tactic(auto, unfolding(crate::specs::ExpressionReading::effect, crate::specs::ExpressionReading::after_effect))]
+#[tactic(auto, unfolding(crate::specs::ExpressionClauses::effect, crate::specs::ExpressionClauses::after_effect))]
 pub fn read_effect(
     alloc: Global,
     reader: &mut Reader<'_>,

@@ -1,9 +1,9 @@
 //! Readers of type names, and of what stands before an operand.
 ghost use Rattle.std.specs.Prelude.{◌≡◌, ◌<◌, ◌≤◌, ◌+◌, IfOk, length};
 ghost use Rattle.floyd_cparse_expressions.specs.Expressions as e;
-ghost use Rattle.floyd_cparse_expressions.specs.ExpressionReading as r;
-ghost use Rattle.floyd_cparse_expressions.specs.ExpressionReading.{nested};
-ghost use Rattle.floyd_grammar.specs.Gives.{Gives};
+ghost use Rattle.floyd_cparse_expressions.specs.ExpressionClauses as r;
+ghost use Rattle.floyd_cparse_expressions.specs.ExpressionClauses.{nested};
+ghost use Rattle.floyd_grammar.specs.GivesClauses.{Gives};
 
 use crate::expression_tokens::leads_prefix;
 use crate::take_expressions::{take_prefix, take_typename_end};
@@ -16,7 +16,7 @@ use sqlite_items::Items;
 use std::alloc::{AllocError, Global};
 
 /// A type name and `)`, with the operators so far.
-#[tactic(auto, unfolding(crate::specs::ExpressionReading::typename, crate::specs::ExpressionReading::typename_declarator))]
+#[tactic(auto, unfolding(crate::specs::ExpressionClauses::typename, crate::specs::ExpressionClauses::typename_declarator))]
 pub(crate) fn read_typename(
     alloc: Global,
     reader: &mut Reader<'_>,
@@ -40,7 +40,7 @@ pub(crate) fn read_typename(
 }
 
 /// One prefix, with the operators behind it.
-#[tactic(auto, unfolding(crate::specs::ExpressionReading::one_prefix, crate::specs::ExpressionReading::after_prefix_start))]
+#[tactic(auto, unfolding(crate::specs::ExpressionClauses::one_prefix, crate::specs::ExpressionClauses::after_prefix_start))]
 fn read_prefix(
     alloc: Global,
     reader: &mut Reader<'_>,
@@ -77,7 +77,7 @@ fn one_prefix(alloc: Global, prefix: Prefix, count: u32, cast: bool) -> Result<P
 }
 
 /// The prefixes before an operand.
-#[tactic(auto, unfolding(crate::specs::ExpressionReading::prefixes))]
+#[tactic(auto, unfolding(crate::specs::ExpressionClauses::prefixes))]
 pub(crate) fn read_prefixes(
     alloc: Global,
     reader: &mut Reader<'_>,

@@ -2,8 +2,8 @@
 ghost use Rattle.std.specs.Prelude.{◌<◌, ◌^◌, ◌≤◌, ◌+◌, IfOk};
 ghost use Rattle.floyd_cparse_tokens.specs.Tokens.{is_mark, place_if};
 ghost use Rattle.floyd_cparse_expressions.specs.Expressions as e;
-ghost use Rattle.floyd_grammar.specs.Parse.{one};
-ghost use Rattle.floyd_grammar.specs.Gives.{Gives};
+ghost use Rattle.floyd_grammar.specs.ParseClauses.{one};
+ghost use Rattle.floyd_grammar.specs.GivesClauses.{Gives};
 
 use crate::expression_tokens::{
     after_expression, after_unary, behind_prefix, infix, is_prefix_at, operand_start,
@@ -14,7 +14,7 @@ use crate::values::{
     Arguments, Assigning, Chain, Comma, EffectNext, Ending, Infix, Operand, OperandStart,
     PostfixStart, PrefixStart,
 };
-use floyd_cparse_tokens::{Reader, TOO_DEEP, TypeNames, UNEXPECTED, closing};
+use floyd_cparse_tokens::{Reader, TOO_DEEP, TypeNames, UNEXPECTED, found_or};
 use floyd_cparse_trees::Identifier;
 use floyd_cparse_types::{Declared, ReadDeclarator, after_declarator};
 use floyd_grammar::Stop;
@@ -40,7 +40,7 @@ pub(crate) fn take_typename_end(
         UNEXPECTED,
     );
     let place = sight.place_if(sight.is_mark(Punctuator::CloseParen));
-    reader.take(closing(cause, place))
+    reader.take(found_or(cause, place))
 }
 
 pub(crate) fn take_prefix(
@@ -57,7 +57,7 @@ pub(crate) fn take_prefix(
         return reader.take(Err(UNEXPECTED));
     }
     let start = prefix_start(&sight, types);
-    reader.take(sight.offered(room, count, start))
+    reader.take(sight.offer(room, count, start))
 }
 
 pub(crate) fn take_operand(
@@ -77,7 +77,7 @@ pub(crate) fn take_operand(
     }
     let special = behind_prefix(&sight, cast);
     let start = operand_start(alloc, &sight, types)?;
-    reader.take(sight.wanted(types, room, count, special, start))
+    reader.take(sight.demand(types, room, count, special, start))
 }
 
 pub(crate) fn take_postfix(
@@ -93,7 +93,7 @@ pub(crate) fn take_postfix(
         return reader.take(Err(UNEXPECTED));
     }
     let start = postfix_start(&sight);
-    reader.take(sight.offered(room, end.count as u64, start))
+    reader.take(sight.offer(room, end.count as u64, start))
 }
 
 pub(crate) fn take_field(
@@ -111,7 +111,7 @@ pub(crate) fn take_field(
     } else {
         None
     };
-    reader.take(sight.wanted(types, room, count as u64, UNEXPECTED, name))
+    reader.take(sight.demand(types, room, count as u64, UNEXPECTED, name))
 }
 
 pub(crate) fn take_infix(
@@ -125,7 +125,7 @@ pub(crate) fn take_infix(
 {
     let sight = reader.peek()?;
     let infix = infix(&sight, level);
-    reader.take(sight.offered(room, left.end.count as u64, infix))
+    reader.take(sight.offer(room, left.end.count as u64, infix))
 }
 
 pub(crate) fn take_question(
@@ -137,7 +137,7 @@ pub(crate) fn take_question(
 {
     let sight = reader.peek()?;
     let place = sight.place_if(sight.is_mark(Punctuator::Question));
-    reader.take(sight.offered(room, condition.end.count as u64, place))
+    reader.take(sight.offer(room, condition.end.count as u64, place))
 }
 
 pub(crate) fn take_colon(
@@ -174,7 +174,7 @@ pub(crate) fn take_assign(
         return reader.take(Err(UNEXPECTED));
     }
     let assigning = assigning(&sight);
-    reader.take(sight.offered(room, end.count as u64, assigning))
+    reader.take(sight.offer(room, end.count as u64, assigning))
 }
 
 pub(crate) fn take_argument_comma(
@@ -186,7 +186,7 @@ pub(crate) fn take_argument_comma(
 {
     let sight = reader.peek()?;
     let place = sight.place_if(sight.is_mark(Punctuator::Comma));
-    reader.take(sight.offered(room, all.end.count as u64, place))
+    reader.take(sight.offer(room, all.end.count as u64, place))
 }
 
 pub(crate) fn take_arguments_end(
@@ -200,7 +200,7 @@ pub(crate) fn take_arguments_end(
     let sight = reader.peek()?;
     let cause = after_expression(&sight, types, Comma::Separates, room, all.end);
     let place = sight.place_if(sight.is_mark(Punctuator::CloseParen));
-    reader.take(closing(cause, place))
+    reader.take(found_or(cause, place))
 }
 
 pub(crate) fn take_no_arguments_end(reader: &mut Reader<'_>) -> Result<Place, Stop>
@@ -208,7 +208,7 @@ pub(crate) fn take_no_arguments_end(reader: &mut Reader<'_>) -> Result<Place, St
 {
     let sight = reader.peek()?;
     let place = sight.place_if(sight.is_mark(Punctuator::CloseParen));
-    reader.take(closing(UNEXPECTED, place))
+    reader.take(found_or(UNEXPECTED, place))
 }
 
 pub(crate) fn take_index_end(
@@ -222,7 +222,7 @@ pub(crate) fn take_index_end(
     let sight = reader.peek()?;
     let cause = after_expression(&sight, types, Comma::Plain, room, index.end);
     let place = sight.place_if(sight.is_mark(Punctuator::CloseBracket));
-    reader.take(closing(cause, place))
+    reader.take(found_or(cause, place))
 }
 
 pub(crate) fn take_parenthesis_end(
@@ -236,7 +236,7 @@ pub(crate) fn take_parenthesis_end(
     let sight = reader.peek()?;
     let cause = after_expression(&sight, types, Comma::LeftOut, room, inner.end);
     let place = sight.place_if(sight.is_mark(Punctuator::CloseParen));
-    reader.take(closing(cause, place))
+    reader.take(found_or(cause, place))
 }
 
 pub fn take_open(
@@ -249,7 +249,7 @@ pub fn take_open(
 {
     let sight = reader.peek()?;
     let place = sight.place_if(sight.is_mark(Punctuator::OpenParen));
-    reader.take(sight.wanted(types, room, count as u64, UNEXPECTED, place))
+    reader.take(sight.demand(types, room, count as u64, UNEXPECTED, place))
 }
 
 /// Takes what follows an unary expression that begins an effect, which the mark ends.
@@ -295,5 +295,5 @@ pub(crate) fn take_effect_end(
     };
     let cause = after_expression(&sight, types, comma, room, effect);
     let place = sight.place_if(sight.is_mark(end));
-    reader.take(closing(cause, place))
+    reader.take(found_or(cause, place))
 }

@@ -77,6 +77,13 @@ pub enum PostfixStart {
     Step(StepOp, Place),
 }
 
+/// `.` or `->`, where it stands.
+#[derive(Clone, Copy)]
+pub struct MemberMark {
+    pub op: MemberOp,
+    pub place: Place,
+}
+
 /// Arguments, and how the last of them ends.
 #[derive(Drop)]
 pub struct Arguments {

@@ -8,8 +8,8 @@ use Rattle.floyd_lex.specs.declared.kinds.Punctuator.TheVariants as p
 use Rattle.floyd_lex.specs.declared.kinds.Keyword.TheVariants as w
 use Rattle.floyd_grammar.specs.Phrase.{Phrase}
 use Rattle.floyd_grammar.specs.Phrase as phrase
-use Rattle.floyd_grammar.specs.Parse.{Parser, is_taken, is_blamed, is_meant, passes_and, blamed_or}
-use Rattle.floyd_grammar.specs.Parse as parse
+use Rattle.floyd_grammar.specs.ParseClauses.{Parser, is_taken, is_blamed, is_meant, passes_and, blamed_or}
+use Rattle.floyd_grammar.specs.ParseClauses as parse
 use Rattle.floyd_grammar.proofs.Exact.{Exact, token, token_solid, nothing}
 use Rattle.floyd_grammar.proofs.Seq.{seq, seq_open, seq_solid, token_then, made, barring}
 use Rattle.floyd_grammar.proofs.Either.{either, either_sure, or_left, or_right}
@@ -24,14 +24,14 @@ use Rattle.floyd_cparse_statements.specs.declared.values.ReadItem.{ReadItem}
 use Rattle.floyd_cparse_statements.specs.declared.values.ReadStatement.{ReadStatement}
 use Rattle.floyd_cparse_statements.specs.declared.values.StatementStart.{StatementStart}
 use Rattle.floyd_cparse_statements.specs.declared.values.StatementStart.TheVariants as start
-use Rattle.floyd_cparse_tokens.specs.Tokens.{without_room, is_there, Sight, Types, is_mark, is_word, is_mark_kind, is_word_kind, is_deep, closing}
+use Rattle.floyd_cparse_tokens.specs.Tokens.{without_room, is_there, Sight, Types, is_mark, is_word, is_mark_kind, is_word_kind, is_deep, found_or}
 use Rattle.floyd_cparse_expressions.specs.Expressions as eg
 use Rattle.floyd_cparse_expressions.specs.Expressions.{Level, Whole, Conditional, goes_on, goes_on_unary, is_separator, close_paren}
-use Rattle.floyd_cparse_expressions.specs.ExpressionReading as er
+use Rattle.floyd_cparse_expressions.specs.ExpressionClauses as er
 use Rattle.floyd_cparse_statements.specs.Statements as g
 use Rattle.floyd_cparse_statements.specs.Statements.{semicolon, label, is_label, begins_declaration, no_declaration, start_of_statement, statement_token, is_taken_else, taken_else}
-use Rattle.floyd_cparse_statements.specs.StatementReading as r
-use Rattle.floyd_cparse_statements.specs.StatementReading.{begins_item, begins_started, begins_else, is_ending}
+use Rattle.floyd_cparse_statements.specs.StatementClauses as r
+use Rattle.floyd_cparse_statements.specs.StatementClauses.{begins_item, begins_started, begins_else, is_ending}
 use Rattle.floyd_cparse_tokens.proofs.TokenLemmas.{and_left, and_right, and_both, or_cases, or_fails_right, not_true, mark_kind, and-false_right, closing_meant}
 use Rattle.floyd_cparse_types.proofs.TypeSets.{specs_brace, begins_specs}
 use Rattle.floyd_cparse_types.proofs.TypeExact.{meant_taken, meant_blamed, closing_place}
@@ -223,13 +223,13 @@ module _ (types : Types) (room : ℕ) (ri rj : Parser Sight ReadStatement) (gi g
   after_start_exact : (x : StatementStart) → Exact (r.after_start types room ri rj x) (g.after_start types room gi gj x) (λ s. true) (λ s. true) more_statement
   unfolding r.after_start
   after_start_exact start.Block = made g.block more_statement (block_items_exact types (pred room) room ri gi I) (λ u x d s e. refl)
-  after_start_exact start.Empty = loose (nothing (g.closed s.Empty) more_statement)
+  after_start_exact start.Empty = loose (nothing (g.whole_statement s.Empty) more_statement)
   after_start_exact (start.If place) = if_exact place
   after_start_exact (start.While place) = while_exact place
   after_start_exact start.Do = do_exact
   after_start_exact (start.For place) = for_exact place
-  after_start_exact start.Break = loose (token_then (g.semicolon_token types room 0) (λ _. nothing (g.closed s.Break) more_statement))
-  after_start_exact start.Continue = loose (token_then (g.semicolon_token types room 0) (λ _. nothing (g.closed s.Continue) more_statement))
+  after_start_exact start.Break = loose (token_then (g.semicolon_token types room 0) (λ _. nothing (g.whole_statement s.Break) more_statement))
+  after_start_exact start.Continue = loose (token_then (g.semicolon_token types room 0) (λ _. nothing (g.whole_statement s.Continue) more_statement))
   after_start_exact (start.Return place) = made (g.return_of place) more_statement (value_exact types room comma.Plain semicolon semicolon_ends) (λ u x d s e. refl)
 
   started_exact : Exact (r.started types room ri rj) (g.started types room gi gj) (λ s. is_taken (statement_token room s)) (λ s. is_blamed (statement_token room s)) more_statement
@@ -242,14 +242,14 @@ module _ (types : Types) (room : ℕ) (ri rj : Parser Sight ReadStatement) (gi g
   started_meant : (s : Sight) → is_meant (statement_token room s) ≡ true → begins_started room s ≡ true
   started_meant s e = go (is_deep room 0 s) e
     where
-      go : (a : Bool) → is_meant (if a then Err 0 else closing 0 (start_of_statement s)) ≡ true → (is_there (start_of_statement s) && not a) ≡ true
+      go : (a : Bool) → is_meant (if a then Err 0 else found_or 0 (start_of_statement s)) ≡ true → (is_there (start_of_statement s) && not a) ≡ true
       go true h = absurd (true≢false (sym h))
       go false h = and_both (is_there (start_of_statement s)) true (closing_meant (start_of_statement s) h) refl
 
   started_unblamed : (s : Sight) → is_blamed (statement_token room s) ≡ true → ⊥
   started_unblamed s e = go (is_deep room 0 s) (start_of_statement s) e
     where
-      go : (a : Bool) (o : Option StatementStart) → is_blamed (if a then Err 0 else closing 0 o) ≡ true → ⊥
+      go : (a : Bool) (o : Option StatementStart) → is_blamed (if a then Err 0 else found_or 0 o) ≡ true → ⊥
       go true o h = true≢false (sym h)
       go false None h = true≢false (sym h)
       go false (Some x) h = true≢false (sym h)
@@ -259,9 +259,9 @@ module _ (types : Types) (room : ℕ) (ri rj : Parser Sight ReadStatement) (gi g
       let x = there_some (start_of_statement s) (and_left (is_there (start_of_statement s)) (not (is_deep room 0 s)) e) in
       inl (inr (s, x.0, refl, taken (is_deep room 0 s) (not_true (is_deep room 0 s) (and_right (is_there (start_of_statement s)) (not (is_deep room 0 s)) e)) x.0 x.1))
     where
-      taken : (a : Bool) → a ≡ false → (x : StatementStart) → start_of_statement s ≡ Some x → (if a then Err 0 else closing 0 (start_of_statement s)) ≡ Ok x
+      taken : (a : Bool) → a ≡ false → (x : StatementStart) → start_of_statement s ≡ Some x → (if a then Err 0 else found_or 0 (start_of_statement s)) ≡ Ok x
       taken true n x f = absurd (true≢false n)
-      taken false n x f = ap (λ (z : Option StatementStart). closing 0 z) f
+      taken false n x f = ap (λ (z : Option StatementStart). found_or 0 z) f
 
   abbrev bad_effect : Sight → Bool
   bad_effect s = blamed_or (label s) (bad_unary types room (er.nested types room) (eg.nested types room) (nested_exact types room) 0 s)

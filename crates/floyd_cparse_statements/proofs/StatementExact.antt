@@ -8,7 +8,7 @@ use Rattle.floyd_lex.specs.declared.kinds.Punctuator.{Punctuator}
 use Rattle.floyd_lex.specs.declared.kinds.Punctuator.TheVariants as p
 use Rattle.floyd_grammar.specs.Phrase.{Phrase}
 use Rattle.floyd_grammar.specs.Phrase as phrase
-use Rattle.floyd_grammar.specs.Parse.{is_taken, is_blamed, is_meant}
+use Rattle.floyd_grammar.specs.ParseClauses.{is_taken, is_blamed, is_meant}
 use Rattle.floyd_grammar.proofs.Exact.{Exact, token_solid, nothing}
 use Rattle.floyd_grammar.proofs.Seq.{seq, seq_solid, token_then, made, barring}
 use Rattle.floyd_grammar.proofs.Either.{either, either_sure}
@@ -27,17 +27,17 @@ use Rattle.floyd_cparse_types.specs.declared.values.ReadDeclarator.{ReadDeclarat
 use Rattle.floyd_cparse_statements.specs.declared.values.ReadItem.{ReadItem}
 use Rattle.floyd_cparse_statements.specs.declared.values.ReadLocal.{ReadLocal}
 use Rattle.floyd_cparse_types.specs.declared.values.ReadSpecifiers.{ReadSpecifiers}
-use Rattle.floyd_cparse_tokens.specs.Tokens.{is_there, Sight, Types, is_mark, closing}
+use Rattle.floyd_cparse_tokens.specs.Tokens.{is_there, Sight, Types, is_mark, found_or}
 use Rattle.floyd_cparse_types.specs.Types as tg
 use Rattle.floyd_cparse_types.specs.Types.{goes_on_declarator}
-use Rattle.floyd_cparse_types.specs.TypeReading as tr
+use Rattle.floyd_cparse_types.specs.TypeClauses as tr
 use Rattle.floyd_cparse_expressions.specs.Expressions as eg
 use Rattle.floyd_cparse_expressions.specs.Expressions.{Level, Whole, Conditional, goes_on, goes_on_unary, is_separator, close_paren}
-use Rattle.floyd_cparse_expressions.specs.ExpressionReading as er
+use Rattle.floyd_cparse_expressions.specs.ExpressionClauses as er
 use Rattle.floyd_cparse_statements.specs.Statements as g
 use Rattle.floyd_cparse_statements.specs.Statements.{semicolon, label, is_label, begins_declaration, no_declaration, start_of_statement, statement_token, is_taken_else, taken_else}
-use Rattle.floyd_cparse_statements.specs.StatementReading as r
-use Rattle.floyd_cparse_statements.specs.StatementReading.{begins_item, begins_started, begins_else, is_ending}
+use Rattle.floyd_cparse_statements.specs.StatementClauses as r
+use Rattle.floyd_cparse_statements.specs.StatementClauses.{begins_item, begins_started, begins_else, is_ending}
 use Rattle.floyd_cparse_tokens.proofs.TokenLemmas.{and_left, or_cases, or_fails_left, or_fails_right, mark_kind, there_place, closing_meant, closing_taken, closing_unless}
 use Rattle.floyd_cparse_types.proofs.TypeSets.{begins_specs, begins_dtor, specifier_dtor, more_specifier, mark_ends}
 use Rattle.floyd_cparse_types.proofs.TypeExact.{InnerExact, meant_taken, meant_blamed, closing_place}
@@ -60,9 +60,9 @@ pub paren_ends : Ends close_paren
 paren_ends = record { mark = p.CloseParen; is_it = λ s e. there_place (is_mark p.CloseParen s) s e; goes_on = refl; begins = refl }
 
 -- what closes behind an expression
-pub value_ends : (cause : ℕ) (ending : Sight → Option Place) → Ends ending → (other : Bool) (s : Sight) (x : Operand) → is_meant (closing (if goes_on x.end s || other then 0 else cause) (ending s)) ≡ true → goes_on x.end s ≡ false
+pub value_ends : (cause : ℕ) (ending : Sight → Option Place) → Ends ending → (other : Bool) (s : Sight) (x : Operand) → is_meant (found_or (if goes_on x.end s || other then 0 else cause) (ending s)) ≡ true → goes_on x.end s ≡ false
 value_ends cause ending E other s x e =
-    or_cases (is_taken (closing (if goes_on x.end s || other then 0 else cause) (ending s))) (is_blamed (closing (if goes_on x.end s || other then 0 else cause) (ending s))) e
+    or_cases (is_taken (found_or (if goes_on x.end s || other then 0 else cause) (ending s))) (is_blamed (found_or (if goes_on x.end s || other then 0 else cause) (ending s))) e
     (λ t. mark_ends_expression E.mark x.end s E.goes_on (E.is_it s (closing_taken _ (ending s) t)))
     (λ b. or_fails_left (goes_on x.end s) other (closing_unless (goes_on x.end s || other) cause (ending s) b))
 
@@ -120,7 +120,7 @@ module _ (types : Types) (room : ℕ) where
   ending_meant ending s e = closing_meant (ending s) e
 
   ending_sure : (ending : Sight → Option Place) (s : Sight) → is_ending ending s ≡ true → (g.no_value types ending).front (s ∷ [])
-  ending_sure ending s e = let x = there_some (ending s) e in inl (inr (s, x.0, refl, ap (λ (z : Option Place). closing 0 z) x.1))
+  ending_sure ending s e = let x = there_some (ending s) e in inl (inr (s, x.0, refl, ap (λ (z : Option Place). found_or 0 z) x.1))
 
   begins_ending : (ending : Sight → Option Place) → Ends ending → (s : Sight) → begins_unary types s ≡ true → is_ending ending s ≡ false
   begins_ending ending E s e = go (is_ending ending s) refl

@@ -9,7 +9,7 @@ use Rattle.floyd_lex.specs.declared.kinds.Punctuator.TheVariants as p
 use Rattle.floyd_lex.specs.declared.kinds.Keyword.TheVariants as w
 use Rattle.floyd_lex.specs.Token.{Token}
 use Rattle.floyd_grammar.specs.Phrase.{none}
-use Rattle.floyd_grammar.specs.Parse.{is_taken, is_blamed, is_meant, passes_and, blamed_or}
+use Rattle.floyd_grammar.specs.ParseClauses.{is_taken, is_blamed, is_meant, passes_and, blamed_or}
 use Rattle.floyd_cparse_expressions.specs.declared.values.Assigning.{Assigning}
 use Rattle.floyd_cparse_types.specs.declared.values.BaseStart.{BaseStart}
 use Rattle.floyd_cparse_types.specs.declared.values.BaseStart.TheVariants as base_start

@@ -2,16 +2,16 @@
 use Rattle.std.proofs.Common.{◌≡◌, ℕ, zero, suc, pred, ◌-◌, ◌<◌, Bool, true, false, not, ◌||◌, List, [], ◌∷◌, length, Ok, Err, refl, sym, true≢false, sub-one}
 use Rattle.std.specs.Prelude.{Option, Some, None}
 use Rattle.floyd_text.specs.declared.place.Place.{Place}
-use Rattle.floyd_grammar.specs.Parse.{Parser, Read, one, pure, bind, ◌>>=◌, leads, barring, stopped_at}
+use Rattle.floyd_grammar.specs.ParseClauses.{Parser, Read, one, pure, bind, ◌>>=◌, leads, barring, stopped_at}
 use Rattle.floyd_cparse_trees.specs.declared.expressions.CExpr.{CExpr}
 use Rattle.floyd_cparse_statements.specs.declared.values.BlockItems.{BlockItems}
 use Rattle.floyd_cparse_expressions.specs.declared.values.Comma.TheVariants as comma
 use Rattle.floyd_cparse_statements.specs.declared.values.ForHead.{ForHead}
 use Rattle.floyd_cparse_statements.specs.declared.values.ReadStatement.{ReadStatement}
 use Rattle.floyd_cparse_expressions.specs.Expressions.{close_paren, open_token}
-use Rattle.floyd_cparse_tokens.specs.Seen.{take_as}
+use Rattle.floyd_cparse_tokens.specs.SeenClauses.{take_as}
 use Rattle.floyd_cparse_statements.specs.Statements.{comma_token, begins_declaration, no_declaration, is_taken_else, taken_else, semicolon, for_of}
-use Rattle.floyd_cparse_statements.specs.StatementReading.{barred_next, begins_item, next_local, next_item, for_effect, value, for_parts, for_head, for_statement, statement, statements, no_statement}
+use Rattle.floyd_cparse_statements.specs.StatementClauses.{barred_next, begins_item, next_local, next_item, for_effect, value, for_parts, for_head, for_statement, statement, statements, no_statement}
 use Rattle.floyd_cparse_tokens.specs.Tokens.{Sight, Types, without_room}
 use Rattle.floyd_cparse_statements.proofs.BlockExact.{statements_exact, block_item_eats}
 use Rattle.floyd_cparse_tokens.proofs.Shrinks.{Eats, one_eats, then_eats, exact_shrinks}

@@ -1,2 +1,2 @@
 pub mod Statements
-pub mod StatementReading
+pub mod StatementClauses

@@ -31,7 +31,7 @@ use Rattle.floyd_cparse_types.specs.declared.values.ReadSpecifiers.{ReadSpecifie
 use Rattle.floyd_cparse_statements.specs.declared.values.ReadStatement.{ReadStatement}
 use Rattle.floyd_cparse_statements.specs.declared.values.StatementStart.{StatementStart}
 use Rattle.floyd_cparse_statements.specs.declared.values.StatementStart.TheVariants as start
-use Rattle.floyd_cparse_tokens.specs.Tokens.{without_room, Sight, Types, is_mark, is_word, is_name, next_is, begins_type, unexpected, left_out, too_deep, is_deep, wanted, closing, place_if}
+use Rattle.floyd_cparse_tokens.specs.Tokens.{without_room, Sight, Types, is_mark, is_word, is_name, next_is, begins_type, unexpected, left_out, too_deep, is_deep, demand, found_or, place_if}
 use Rattle.floyd_cparse_types.specs.Types.{within, after_declarator}
 use Rattle.floyd_cparse_expressions.specs.Expressions.{Whole, nested, effect, after_expression, close_paren, open_token}
 
@@ -65,25 +65,25 @@ abbrev pub semicolon : Sight → Option Place
 semicolon s = place_if (is_mark p.Semicolon s) s
 
 abbrev pub comma_token : Sight → Result Place ℕ
-comma_token s = closing unexpected (place_if (is_mark p.Comma s) s)
+comma_token s = found_or unexpected (place_if (is_mark p.Comma s) s)
 
 abbrev pub equal_token : Sight → Result Place ℕ
-equal_token s = closing unexpected (place_if (is_mark p.Equal s) s)
+equal_token s = found_or unexpected (place_if (is_mark p.Equal s) s)
 
 abbrev pub brace_end : Sight → Result Place ℕ
-brace_end s = closing unexpected (place_if (is_mark p.CloseBrace s) s)
+brace_end s = found_or unexpected (place_if (is_mark p.CloseBrace s) s)
 
 abbrev pub ending_token : (Sight → Option Place) → Sight → Result Place ℕ
-ending_token ending s = closing unexpected (ending s)
+ending_token ending s = found_or unexpected (ending s)
 
 abbrev pub value_end : Types → Comma → ℕ → (Sight → Option Place) → Operand → Sight → Result Place ℕ
-value_end types c room ending x s = closing (after_expression types c room x.end s) (ending s)
+value_end types c room ending x s = found_or (after_expression types c room x.end s) (ending s)
 
 abbrev pub semicolon_token : Types → ℕ → ℕ → Sight → Result Place ℕ
-semicolon_token types room count s = wanted types room count unexpected s (semicolon s)
+semicolon_token types room count s = demand types room count unexpected s (semicolon s)
 
 abbrev pub while_token : Types → ℕ → ℕ → Sight → Result Place ℕ
-while_token types room count s = wanted types room count unexpected s (place_if (is_word w.While s) s)
+while_token types room count s = demand types room count unexpected s (place_if (is_word w.While s) s)
 
 -- the word with which a statement begins that leaves a loop or a function
 abbrev pub leaving_start : Sight → Option StatementStart
@@ -106,11 +106,11 @@ start_of_statement s =
 
 -- where it is too deep, the effect that might begin there refuses it
 abbrev pub statement_token : ℕ → Sight → Result StatementStart ℕ
-statement_token room s = if is_deep room 0 s then Err unexpected else closing unexpected (start_of_statement s)
+statement_token room s = if is_deep room 0 s then Err unexpected else found_or unexpected (start_of_statement s)
 
 -- An `else` belongs to the nearest `if` that can take it.
 abbrev pub else_token : ReadStatement → Sight → Result Place ℕ
-else_token body s = closing unexpected (place_if (is_word w.Else s && not body.takes_else) s)
+else_token body s = found_or unexpected (place_if (is_word w.Else s && not body.takes_else) s)
 
 abbrev pub after_local : Types → ℕ → LocalEnd → Sight → ℕ
 after_local types room (end.Declarator declarator) s =
@@ -118,7 +118,7 @@ after_local types room (end.Declarator declarator) s =
 after_local types room (end.Value x) s = after_expression types comma.Separates room x s
 
 abbrev pub locals_end : Types → ℕ → LocalEnd → Sight → Result Place ℕ
-locals_end types room end s = closing (after_local types room end s) (semicolon s)
+locals_end types room end s = found_or (after_local types room end s) (semicolon s)
 
 -- What is built.
 abbrev pub tree_of : Operand → CExpr
@@ -157,14 +157,14 @@ plus_item all next = record { items = all.items ++ next.tree ∷ []; takes_else 
 abbrev pub items_of : BlockItems → List BlockItem
 items_of all = all.items
 
-abbrev pub closed : CStatement → ReadStatement
-closed tree = record { tree = tree; takes_else = false }
+abbrev pub whole_statement : CStatement → ReadStatement
+whole_statement tree = record { tree = tree; takes_else = false }
 
 abbrev pub block : List BlockItem → ReadStatement
-block items = closed (s.Block items)
+block items = whole_statement (s.Block items)
 
 abbrev pub effect_of : CExpr → ReadStatement
-effect_of x = closed (s.Effect x)
+effect_of x = whole_statement (s.Effect x)
 
 abbrev pub if_alone : Place → CExpr → ReadStatement → ReadStatement
 if_alone place condition body = record { tree = s.If place condition body.tree; takes_else = true }
@@ -176,13 +176,13 @@ abbrev pub while_of : Place → CExpr → ReadStatement → ReadStatement
 while_of place condition body = record { tree = s.While place condition body.tree; takes_else = body.takes_else }
 
 abbrev pub do_of : ReadStatement → Place → CExpr → ReadStatement
-do_of body place condition = closed (s.Do body.tree place condition)
+do_of body place condition = whole_statement (s.Do body.tree place condition)
 
 abbrev pub for_of : Place → Option CExpr → Option CExpr → Option CExpr → ReadStatement → ReadStatement
 for_of place first condition third body = record { tree = s.For place first condition third body.tree; takes_else = body.takes_else }
 
 abbrev pub return_of : Place → Option CExpr → ReadStatement
-return_of place value = closed (s.Return place value)
+return_of place value = whole_statement (s.Return place value)
 
 module _ (types : Types) where
   -- "(" expr ")"
@@ -297,13 +297,13 @@ module _ (types : Types) where
 
     abbrev pub after_start : StatementStart → Phrase Sight ReadStatement
     after_start start.Block = block_items (pred room) inner >>= λ items. pure (block items)
-    after_start start.Empty = pure (closed s.Empty)
+    after_start start.Empty = pure (whole_statement s.Empty)
     after_start (start.If place) = if_statement place
     after_start (start.While place) = while_statement place
     after_start start.Do = do_statement
     after_start (start.For place) = for_statement place
-    after_start start.Break = one (semicolon_token types room 0) >> pure (closed s.Break)
-    after_start start.Continue = one (semicolon_token types room 0) >> pure (closed s.Continue)
+    after_start start.Break = one (semicolon_token types room 0) >> pure (whole_statement s.Break)
+    after_start start.Continue = one (semicolon_token types room 0) >> pure (whole_statement s.Continue)
     after_start (start.Return place) = value room comma.Plain semicolon >>= λ x. pure (return_of place x)
 
     abbrev pub started : Phrase Sight ReadStatement

@@ -1,10 +1,10 @@
 //! Readers of conditions, heads of loops and local variables.
 ghost use Rattle.std.specs.Prelude.{◌≡◌, ◌≤◌, pred, IfOk};
-ghost use Rattle.floyd_cparse_statements.specs.StatementReading.{statements};
-ghost use Rattle.floyd_grammar.specs.Gives.{Gives};
+ghost use Rattle.floyd_cparse_statements.specs.StatementClauses.{statements};
+ghost use Rattle.floyd_grammar.specs.GivesClauses.{Gives};
 ghost use Rattle.floyd_cparse_tokens.specs.Tokens.{is_mark, place_if};
 ghost use Rattle.floyd_cparse_statements.specs.Statements as s;
-ghost use Rattle.floyd_cparse_statements.specs.StatementReading as r;
+ghost use Rattle.floyd_cparse_statements.specs.StatementClauses as r;
 
 use crate::take_statements::{
     bars_list, leads_end, take_end, take_equal, take_locals_end, take_semicolon, take_value_end,
@@ -21,7 +21,7 @@ use sqlite_items::{Boxed, Items};
 use std::alloc::{AllocError, Global};
 
 /// `"(" expr ")"` behind a word.
-#[tactic(auto, unfolding(crate::specs::StatementReading::parenthesised))]
+#[tactic(auto, unfolding(crate::specs::StatementClauses::parenthesised))]
 pub(crate) fn read_condition(
     alloc: Global,
     reader: &mut Reader<'_>,
@@ -57,7 +57,7 @@ fn read_inner_condition(
 }
 
 /// `[effect]` and the mark behind it.
-#[tactic(auto, unfolding(crate::specs::StatementReading::for_effect, crate::specs::StatementReading::no_value, crate::specs::StatementReading::some_effect))]
+#[tactic(auto, unfolding(crate::specs::StatementClauses::for_effect, crate::specs::StatementClauses::no_value, crate::specs::StatementClauses::some_effect))]
 fn read_for_effect(
     alloc: Global,
     reader: &mut Reader<'_>,
@@ -77,7 +77,7 @@ fn read_for_effect(
 }
 
 /// `[expr]` and the mark behind it.
-#[tactic(auto, unfolding(crate::specs::StatementReading::value, crate::specs::StatementReading::no_value))]
+#[tactic(auto, unfolding(crate::specs::StatementClauses::value, crate::specs::StatementClauses::no_value))]
 pub(crate) fn read_value(
     alloc: Global,
     reader: &mut Reader<'_>,
@@ -113,7 +113,7 @@ fn read_some_value(
 }
 
 /// `"(" [effect] ";" [expr] ";" [effect] ")"` behind `for`.
-#[tactic(auto, unfolding(crate::specs::StatementReading::for_head))]
+#[tactic(auto, unfolding(crate::specs::StatementClauses::for_head))]
 pub(crate) fn read_for_head(
     alloc: Global,
     reader: &mut Reader<'_>,
@@ -154,7 +154,7 @@ fn read_for_parts(
 }
 
 /// `"while" "(" expr ")" ";"` behind the body of `do`.
-#[tactic(auto, unfolding(crate::specs::StatementReading::do_condition))]
+#[tactic(auto, unfolding(crate::specs::StatementClauses::do_condition))]
 pub(crate) fn read_do_condition(
     alloc: Global,
     reader: &mut Reader<'_>,
@@ -168,7 +168,7 @@ pub(crate) fn read_do_condition(
     let place = take_while(reader, types, room, 1)?;
     let condition = read_condition(alloc, reader, types, room)?;
     take_semicolon(reader, types, room, 1)?;
-    Ok(closed(
+    Ok(whole_statement(
         alloc,
         CStatement::Do {
             body: body.tree,
@@ -179,7 +179,7 @@ pub(crate) fn read_do_condition(
 }
 
 /// `specs dtor ["=" rhs] {"," dtor ["=" rhs]} ";"`
-#[tactic(auto, unfolding(crate::specs::StatementReading::local_declaration, crate::specs::StatementReading::locals_of))]
+#[tactic(auto, unfolding(crate::specs::StatementClauses::local_declaration, crate::specs::StatementClauses::locals_of))]
 pub(crate) fn read_local_declaration(
     alloc: Global,
     reader: &mut Reader<'_>,
@@ -198,7 +198,7 @@ pub(crate) fn read_local_declaration(
     })
 }
 
-#[tactic(auto, unfolding(crate::specs::StatementReading::locals))]
+#[tactic(auto, unfolding(crate::specs::StatementClauses::locals))]
 fn read_locals(
     alloc: Global,
     reader: &mut Reader<'_>,
@@ -234,7 +234,7 @@ fn read_next_local(
 }
 
 /// `dtor ["=" rhs]`
-#[tactic(auto, unfolding(crate::specs::StatementReading::local))]
+#[tactic(auto, unfolding(crate::specs::StatementClauses::local))]
 fn read_local(
     alloc: Global,
     reader: &mut Reader<'_>,
@@ -248,7 +248,7 @@ fn read_local(
     read_local_rest(alloc, reader, types, room, declarator)
 }
 
-#[tactic(auto, unfolding(crate::specs::StatementReading::local_rest, crate::specs::StatementReading::local_value))]
+#[tactic(auto, unfolding(crate::specs::StatementClauses::local_rest, crate::specs::StatementClauses::local_value))]
 fn read_local_rest(
     alloc: Global,
     reader: &mut Reader<'_>,
@@ -296,8 +296,8 @@ fn read_right_side(
 }
 
 /// A statement to which no `else` behind it belongs.
-pub(crate) fn closed(alloc: Global, tree: CStatement) -> Result<ReadStatement, AllocError>
-    ensures { IfOk result (λ x. x ≡ s.closed tree) }
+pub(crate) fn whole_statement(alloc: Global, tree: CStatement) -> Result<ReadStatement, AllocError>
+    ensures { IfOk result (λ x. x ≡ s.whole_statement tree) }
 {
     Ok(ReadStatement {
         tree: Boxed::new(alloc, tree)?,

@@ -1,13 +1,14 @@
 //! Readers of statements.
 ghost use Rattle.std.specs.Prelude.{◌≡◌, ◌≤◌, pred, true, IfOk};
-ghost use Rattle.floyd_grammar.specs.Parse.{leads};
-ghost use Rattle.floyd_grammar.specs.Gives.{Gives};
+ghost use Rattle.floyd_grammar.specs.ParseClauses.{leads};
+ghost use Rattle.floyd_grammar.specs.GivesClauses.{Gives};
 ghost use Rattle.floyd_cparse_statements.specs.Statements as s;
-ghost use Rattle.floyd_cparse_statements.specs.StatementReading as r;
-ghost use Rattle.floyd_cparse_statements.specs.StatementReading.{statements, block_items};
+ghost use Rattle.floyd_cparse_statements.specs.StatementClauses as r;
+ghost use Rattle.floyd_cparse_statements.specs.StatementClauses.{statements, block_items};
 
 use crate::read_locals::{
-    closed, read_condition, read_do_condition, read_for_head, read_local_declaration, read_value,
+    read_condition, read_do_condition, read_for_head, read_local_declaration, read_value,
+    whole_statement,
 };
 use crate::take_statements::{
     bars_label, leads_declaration, leads_else, leads_item, leads_started, take_else,
@@ -26,7 +27,7 @@ use std::alloc::{AllocError, Global};
 
 /// The items of a block, and `}`.
 #[cycle(statements)]
-#[tactic(auto, unfolding(crate::specs::StatementReading::block_items))]
+#[tactic(auto, unfolding(crate::specs::StatementClauses::block_items))]
 pub fn read_block_items(
     alloc: Global,
     reader: &mut Reader<'_>,
@@ -49,7 +50,7 @@ pub fn read_block_items(
 
 /// `specs dtor .. ";" | stmt`
 #[cycle(statements)]
-#[tactic(auto, unfolding(crate::specs::StatementReading::block_item, crate::specs::StatementReading::stated_item))]
+#[tactic(auto, unfolding(crate::specs::StatementClauses::block_item, crate::specs::StatementClauses::stated_item))]
 fn read_item(
     alloc: Global,
     reader: &mut Reader<'_>,
@@ -69,7 +70,7 @@ fn read_item(
     })
 }
 
-#[tactic(auto, unfolding(crate::specs::StatementReading::declared_item))]
+#[tactic(auto, unfolding(crate::specs::StatementClauses::declared_item))]
 fn read_declared_item(
     alloc: Global,
     reader: &mut Reader<'_>,
@@ -105,7 +106,7 @@ fn read_statement(
 }
 
 #[cycle(statements)]
-#[tactic(auto, unfolding(crate::specs::StatementReading::statement, crate::specs::StatementReading::started))]
+#[tactic(auto, unfolding(crate::specs::StatementClauses::statement, crate::specs::StatementClauses::started))]
 fn read_statement_inside(
     alloc: Global,
     reader: &mut Reader<'_>,
@@ -122,7 +123,7 @@ fn read_statement_inside(
     read_started(alloc, reader, types, room, start)
 }
 
-#[tactic(auto, unfolding(crate::specs::StatementReading::effect_statement))]
+#[tactic(auto, unfolding(crate::specs::StatementClauses::effect_statement))]
 fn read_effect_statement(
     alloc: Global,
     reader: &mut Reader<'_>,
@@ -133,7 +134,7 @@ fn read_effect_statement(
     ensures { Gives result reader.new (r.effect_statement types.now room (statements types.now room) (statements types.now (pred room)) reader.old) }
 {
     let effect = read_unlabelled(alloc, reader, types, room)?;
-    Ok(closed(alloc, CStatement::Effect(effect))?)
+    Ok(whole_statement(alloc, CStatement::Effect(effect))?)
 }
 
 /// `effect ";"`, which no label begins.
@@ -161,7 +162,7 @@ fn read_unlabelled(
 
 /// What follows the word or mark with which a statement begins.
 #[cycle(statements)]
-#[tactic(auto, unfolding(crate::specs::StatementReading::after_start, crate::specs::StatementReading::while_statement, crate::specs::StatementReading::do_statement))]
+#[tactic(auto, unfolding(crate::specs::StatementClauses::after_start, crate::specs::StatementClauses::while_statement, crate::specs::StatementClauses::do_statement))]
 fn read_started(
     alloc: Global,
     reader: &mut Reader<'_>,
@@ -175,9 +176,9 @@ fn read_started(
     match start {
         StatementStart::Block => {
             let items = read_block_items(alloc, reader, types, room)?;
-            Ok(closed(alloc, CStatement::Block(items))?)
+            Ok(whole_statement(alloc, CStatement::Block(items))?)
         }
-        StatementStart::Empty => Ok(closed(alloc, CStatement::Empty)?),
+        StatementStart::Empty => Ok(whole_statement(alloc, CStatement::Empty)?),
         StatementStart::If(place) => read_if(alloc, reader, types, room, place),
         StatementStart::While(place) => {
             let condition = read_condition(alloc, reader, types, room)?;
@@ -195,11 +196,11 @@ fn read_started(
         }
         StatementStart::Break => {
             take_semicolon(reader, types, room, 0)?;
-            Ok(closed(alloc, CStatement::Break)?)
+            Ok(whole_statement(alloc, CStatement::Break)?)
         }
         StatementStart::Continue => {
             take_semicolon(reader, types, room, 0)?;
-            Ok(closed(alloc, CStatement::Continue)?)
+            Ok(whole_statement(alloc, CStatement::Continue)?)
         }
         StatementStart::Return(place) => {
             let value = read_value(
@@ -210,11 +211,11 @@ fn read_started(
                 Comma::Plain,
                 Punctuator::Semicolon,
             )?;
-            Ok(closed(
+            Ok(whole_statement(
                 alloc,
                 CStatement::Return {
                     place,
-                    value: unboxed(value),
+                    value: unbox(value),
                 },
             )?)
         }
@@ -223,7 +224,7 @@ fn read_started(
 
 /// `"(" expr ")" stmt ["else" stmt]`
 #[cycle(statements)]
-#[tactic(auto, unfolding(crate::specs::StatementReading::if_statement, crate::specs::StatementReading::after_if, crate::specs::StatementReading::with_else))]
+#[tactic(auto, unfolding(crate::specs::StatementClauses::if_statement, crate::specs::StatementClauses::after_if, crate::specs::StatementClauses::with_else))]
 fn read_if(
     alloc: Global,
     reader: &mut Reader<'_>,
@@ -316,9 +317,9 @@ fn for_of(
     let takes_else = body.takes_else;
     let tree = CStatement::For {
         place,
-        first: unboxed(head.first),
-        condition: unboxed(head.condition),
-        third: unboxed(head.third),
+        first: unbox(head.first),
+        condition: unbox(head.condition),
+        third: unbox(head.third),
         body: body.tree,
     };
     Ok(ReadStatement {
@@ -327,7 +328,7 @@ fn for_of(
     })
 }
 
-fn unboxed(value: Option<Boxed<CExpr>>) -> Option<CExpr>
+fn unbox(value: Option<Boxed<CExpr>>) -> Option<CExpr>
     ensures { result ≡ value }
 {
     match value {

@@ -1,14 +1,14 @@
 //! Tokens of statements, as the reader takes them.
 ghost use Rattle.std.specs.Prelude.{◌≡◌, [], Err};
 ghost use Rattle.floyd_cparse_statements.specs.Statements as s;
-ghost use Rattle.floyd_cparse_statements.specs.StatementReading as r;
+ghost use Rattle.floyd_cparse_statements.specs.StatementClauses as r;
 ghost use Rattle.floyd_cparse_tokens.specs.Tokens.{is_mark, place_if};
-ghost use Rattle.floyd_grammar.specs.Parse.{leads, one};
-ghost use Rattle.floyd_grammar.specs.Gives.{Gives};
+ghost use Rattle.floyd_grammar.specs.ParseClauses.{leads, one};
+ghost use Rattle.floyd_grammar.specs.GivesClauses.{Gives};
 
 use crate::values::{LocalEnd, ReadStatement, StatementStart};
 use floyd_cparse_expressions::{Comma, Operand, after_expression};
-use floyd_cparse_tokens::{LEFT_OUT, Reader, Sight, TOO_DEEP, TypeNames, UNEXPECTED, closing};
+use floyd_cparse_tokens::{LEFT_OUT, Reader, Sight, TOO_DEEP, TypeNames, UNEXPECTED, found_or};
 use floyd_cparse_types::{Declared, after_declarator};
 use floyd_grammar::Stop;
 use floyd_lex::{Keyword, Punctuator};
@@ -112,7 +112,7 @@ pub(crate) fn take_end(reader: &mut Reader<'_>, end: Punctuator) -> Result<Place
 {
     let sight = reader.peek()?;
     let place = sight.place_if(sight.is_mark(end));
-    reader.take(closing(UNEXPECTED, place))
+    reader.take(found_or(UNEXPECTED, place))
 }
 
 pub(crate) fn take_value_end(
@@ -128,7 +128,7 @@ pub(crate) fn take_value_end(
     let sight = reader.peek()?;
     let cause = after_expression(&sight, types, comma, room, value.end);
     let place = sight.place_if(sight.is_mark(end));
-    reader.take(closing(cause, place))
+    reader.take(found_or(cause, place))
 }
 
 pub(crate) fn take_semicolon(
@@ -141,7 +141,7 @@ pub(crate) fn take_semicolon(
 {
     let sight = reader.peek()?;
     let place = sight.place_if(sight.is_mark(Punctuator::Semicolon));
-    reader.take(sight.wanted(types, room, count as u64, UNEXPECTED, place))
+    reader.take(sight.demand(types, room, count as u64, UNEXPECTED, place))
 }
 
 pub(crate) fn take_while(
@@ -154,7 +154,7 @@ pub(crate) fn take_while(
 {
     let sight = reader.peek()?;
     let place = sight.place_if(sight.is_word(Keyword::While));
-    reader.take(sight.wanted(types, room, count as u64, UNEXPECTED, place))
+    reader.take(sight.demand(types, room, count as u64, UNEXPECTED, place))
 }
 
 /// A statement that is no effect begins, and is not too deep.
@@ -174,7 +174,7 @@ pub(crate) fn take_start(reader: &mut Reader<'_>, room: u32) -> Result<Statement
     if sight.is_deep(room, 0) {
         return reader.take(Err(UNEXPECTED));
     }
-    reader.take(closing(UNEXPECTED, statement_start(&sight)))
+    reader.take(found_or(UNEXPECTED, statement_start(&sight)))
 }
 
 /// An `else` that belongs to the `if` before.
@@ -189,7 +189,7 @@ pub(crate) fn take_else(reader: &mut Reader<'_>, body: &ReadStatement) -> Result
 {
     let sight = reader.peek()?;
     let place = sight.place_if(sight.is_word(Keyword::Else) && !body.takes_else);
-    reader.take(closing(UNEXPECTED, place))
+    reader.take(found_or(UNEXPECTED, place))
 }
 
 pub(crate) fn leads_declaration(reader: &Reader<'_>, types: &TypeNames) -> bool
@@ -238,7 +238,7 @@ pub fn take_equal(reader: &mut Reader<'_>) -> Result<Place, Stop>
 {
     let sight = reader.peek()?;
     let place = sight.place_if(sight.is_mark(Punctuator::Equal));
-    reader.take(closing(UNEXPECTED, place))
+    reader.take(found_or(UNEXPECTED, place))
 }
 
 pub(crate) fn take_locals_end(
@@ -252,5 +252,5 @@ pub(crate) fn take_locals_end(
     let sight = reader.peek()?;
     let cause = after_local(&sight, types, room, end);
     let place = sight.place_if(sight.is_mark(Punctuator::Semicolon));
-    reader.take(closing(cause, place))
+    reader.take(found_or(cause, place))
 }

@@ -3,8 +3,8 @@ use Rattle.std.proofs.Common.{◌≡◌, ℕ, ◌-◌, List, length, Err, refl, 
 use Rattle.std.specs.Prelude.{Option, Some, None}
 use Rattle.floyd_lex.specs.declared.kinds.TokenKind.{TokenKind}
 use Rattle.floyd_lex.specs.Token.{TokenList}
-use Rattle.floyd_grammar.specs.Parse.{ended}
-use Rattle.floyd_cparse_tokens.specs.Seen.{sights_from}
+use Rattle.floyd_grammar.specs.ParseClauses.{ended}
+use Rattle.floyd_cparse_tokens.specs.SeenClauses.{sights_from}
 use Rattle.floyd_cparse_tokens.proofs.SightLemmas.{kind_at, from_here, from_end, count_from}
 
 module _ (bytes : List ℕ) (list : TokenList) where

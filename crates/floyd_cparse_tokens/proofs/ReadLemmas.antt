@@ -2,12 +2,12 @@
 use Rattle.std.proofs.Common.{◌≡◌, ℕ, Bool, true, false, List, [], ◌∷◌, drop, length, Result, Ok, Err, IsErrAnd, refl, sym, ◌∙◌, ap, subst, le_refl}
 use Rattle.floyd_grammar.specs.declared.stop.Stop.{Stop}
 use Rattle.floyd_grammar.specs.declared.stop.Stop.TheVariants as stop
-use Rattle.floyd_grammar.specs.Parse.{Parser, Read, one, bind, ◌>>=◌, leads, folded}
+use Rattle.floyd_grammar.specs.ParseClauses.{Parser, Read, one, bind, ◌>>=◌, leads, folded}
 use Rattle.floyd_grammar.proofs.Turns.{Turning, turning, turned, stopped, failed}
 use Rattle.floyd_cparse_tokens.proofs.Shrinks.{Eats}
-use Rattle.floyd_grammar.specs.Gives.{Gives}
+use Rattle.floyd_grammar.specs.GivesClauses.{Gives}
 use Rattle.floyd_cparse_tokens.specs.Tokens.{Sight}
-use Rattle.floyd_cparse_tokens.specs.Seen.{take_as}
+use Rattle.floyd_cparse_tokens.specs.SeenClauses.{take_as}
 
 module _ {A : Type 0} (f : Sight → Result A ℕ) where
   one_seen : (ts : List Sight) (s : Sight) → ts ≡ s ∷ drop 1 ts → take_as (f s) ts ≡ one f ts

@@ -1,7 +1,7 @@
 -- No reader puts tokens back, and the item of a loop takes one at least.
 use Rattle.std.proofs.Common.{◌≡◌, ℕ, zero, suc, ◌<◌, ◌≤◌, Bool, true, false, if◌then◌else◌, List, [], ◌∷◌, length, Result, Ok, Err, refl, ap, length-append, arith}
 use Rattle.floyd_grammar.specs.Phrase.{Phrase}
-use Rattle.floyd_grammar.specs.Parse.{Parser, Read, one, taken, pure, bind, ◌>>=◌, leads, either, fold_at, folded}
+use Rattle.floyd_grammar.specs.ParseClauses.{Parser, Read, one, taken, pure, bind, ◌>>=◌, leads, either, fold_at, folded}
 use Rattle.floyd_grammar.proofs.Exact.{Exact}
 use Rattle.floyd_grammar.proofs.Turns.{eats}
 

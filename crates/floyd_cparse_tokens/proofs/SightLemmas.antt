@@ -6,7 +6,7 @@ use Rattle.std.proofs.lemmas.Option.{slice_get-map, slice_get_within, slice_get_
 use Rattle.floyd_lex.specs.declared.kinds.TokenKind.{TokenKind}
 use Rattle.floyd_lex.specs.Token.{Token, TokenList, Lexeme, token_of, tokens_in}
 use Rattle.floyd_cparse_tokens.specs.Tokens.{sights}
-use Rattle.floyd_cparse_tokens.specs.Seen.{first_of, sight_at, sights_from, take_as}
+use Rattle.floyd_cparse_tokens.specs.SeenClauses.{first_of, sight_at, sights_from, take_as}
 
 abbrev pub kind_at : TokenList → ℕ → Option TokenKind
 kind_at list at = option_map (λ (x : Lexeme). x.kind) (slice_get list.items at)

@@ -7,8 +7,8 @@ use Rattle.floyd_lex.specs.declared.kinds.Punctuator.{Punctuator}
 use Rattle.floyd_lex.specs.declared.kinds.Keyword.{Keyword}
 use Rattle.floyd_lex.specs.contracts.kinds.Punctuator.{the_type as marks}
 use Rattle.floyd_lex.specs.contracts.kinds.Keyword.{the_type as words}
-use Rattle.floyd_grammar.specs.Parse.{is_taken, is_blamed, is_meant}
-use Rattle.floyd_cparse_tokens.specs.Tokens.{is_there, Sight, Types, is_mark_kind, is_word_kind, is_name_kind, offered, wanted, closing, place_if}
+use Rattle.floyd_grammar.specs.ParseClauses.{is_taken, is_blamed, is_meant}
+use Rattle.floyd_cparse_tokens.specs.Tokens.{is_there, Sight, Types, is_mark_kind, is_word_kind, is_name_kind, offer, demand, found_or, place_if}
 use denote.Enum.Bare.{same_true}
 
 -- Of two tests one fails or both hold.
@@ -71,31 +71,31 @@ pub there_place : (b : Bool) (s : Sight) → is_there (place_if b s) ≡ true �
 there_place true s e = refl
 there_place false s e = absurd (true≢false (sym e))
 
-pub closing_meant : {A : Type 0} (o : Option A) → is_meant (closing 0 o) ≡ true → is_there o ≡ true
+pub closing_meant : {A : Type 0} (o : Option A) → is_meant (found_or 0 o) ≡ true → is_there o ≡ true
 closing_meant None e = absurd (true≢false (sym e))
 closing_meant (Some x) e = refl
 
-pub closing_taken : {A : Type 0} (cause : ℕ) (o : Option A) → is_taken (closing cause o) ≡ true → is_there o ≡ true
+pub closing_taken : {A : Type 0} (cause : ℕ) (o : Option A) → is_taken (found_or cause o) ≡ true → is_there o ≡ true
 closing_taken cause None e = absurd (true≢false (sym e))
 closing_taken cause (Some x) e = refl
 
-pub closing_blamed : {A : Type 0} (cause : ℕ) (o : Option A) → is_blamed (closing cause o) ≡ true → (cause ≡ 0) → ⊥
+pub closing_blamed : {A : Type 0} (cause : ℕ) (o : Option A) → is_blamed (found_or cause o) ≡ true → (cause ≡ 0) → ⊥
 closing_blamed cause None e z = true≢false (sym e ∙ ap (λ (n : ℕ). is_blamed (let r : Result Bool ℕ = Err n in r)) z)
 closing_blamed cause (Some x) e z = true≢false (sym e)
 
-pub offered_meant : {A : Type 0} (room count : ℕ) (s : Sight) (o : Option A) → is_meant (offered room count s o) ≡ true → is_there o ≡ true
+pub offered_meant : {A : Type 0} (room count : ℕ) (s : Sight) (o : Option A) → is_meant (offer room count s o) ≡ true → is_there o ≡ true
 offered_meant room count s None e = absurd (true≢false (sym e))
 offered_meant room count s (Some x) e = refl
 
-pub wanted_taken : {A : Type 0} (types : Types) (room count special : ℕ) (s : Sight) (o : Option A) → is_taken (wanted types room count special s o) ≡ true → is_there o ≡ true
+pub wanted_taken : {A : Type 0} (types : Types) (room count special : ℕ) (s : Sight) (o : Option A) → is_taken (demand types room count special s o) ≡ true → is_there o ≡ true
 wanted_taken types room count special s None e = absurd (true≢false (sym e))
 wanted_taken types room count special s (Some x) e = refl
 
 -- a cause that is 0 where one of two tests holds
-pub closing_unless : {A : Type 0} (test : Bool) (cause : ℕ) (o : Option A) → is_blamed (closing (if test then 0 else cause) o) ≡ true → test ≡ false
+pub closing_unless : {A : Type 0} (test : Bool) (cause : ℕ) (o : Option A) → is_blamed (found_or (if test then 0 else cause) o) ≡ true → test ≡ false
 closing_unless true cause o e = absurd (closing_blamed 0 o e refl)
 closing_unless false cause o e = refl
 
-pub closing_unless_either : {A : Type 0} (first second : Bool) (cause : ℕ) (o : Option A) → is_blamed (closing (if first then 0 else if second then 0 else cause) o) ≡ true → (first ≡ false) × (second ≡ false)
+pub closing_unless_either : {A : Type 0} (first second : Bool) (cause : ℕ) (o : Option A) → is_blamed (found_or (if first then 0 else if second then 0 else cause) o) ≡ true → (first ≡ false) × (second ≡ false)
 closing_unless_either true second cause o e = absurd (closing_blamed 0 o e refl)
 closing_unless_either false second cause o e = (refl, closing_unless second cause o e)

@@ -207,19 +207,19 @@ abbrev pub blame : Types → ℕ → ℕ → ℕ → Sight → ℕ
 blame types room count special s = if is_deep room count s then too_deep else if is_left_out types s then left_out else special
 
 -- what may stand here is taken unless it is too deep, and nothing else is blamed
-abbrev pub offered : {A : Type 0} → ℕ → ℕ → Sight → Option A → Result A ℕ
-offered room count s None = Err unexpected
-offered room count s (Some x) = if is_deep room count s then Err too_deep else Ok x
+abbrev pub offer : {A : Type 0} → ℕ → ℕ → Sight → Option A → Result A ℕ
+offer room count s None = Err unexpected
+offer room count s (Some x) = if is_deep room count s then Err too_deep else Ok x
 
 -- what must stand here is taken unless it is too deep, and everything else is blamed
-abbrev pub wanted : {A : Type 0} → Types → ℕ → ℕ → ℕ → Sight → Option A → Result A ℕ
-wanted types room count special s None = Err (blame types room count special s)
-wanted types room count special s (Some x) = if is_deep room count s then Err too_deep else Ok x
+abbrev pub demand : {A : Type 0} → Types → ℕ → ℕ → ℕ → Sight → Option A → Result A ℕ
+demand types room count special s None = Err (blame types room count special s)
+demand types room count special s (Some x) = if is_deep room count s then Err too_deep else Ok x
 
 -- the same of what closes, or ends what stands before, and is never too deep
-abbrev pub closing : {A : Type 0} → ℕ → Option A → Result A ℕ
-closing cause None = Err cause
-closing cause (Some x) = Ok x
+abbrev pub found_or : {A : Type 0} → ℕ → Option A → Result A ℕ
+found_or cause None = Err cause
+found_or cause (Some x) = Ok x
 
 -- the place of a token of which the test holds
 abbrev pub place_if : Bool → Sight → Option Place

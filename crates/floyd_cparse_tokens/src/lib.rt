@@ -7,4 +7,4 @@ mod tokens;
 
 pub use names::TypeNames;
 pub use sight::{Reader, Sight};
-pub use tokens::{LEFT_OUT, SHADOWED, TOO_DEEP, UNEXPECTED, closing, inside};
+pub use tokens::{LEFT_OUT, SHADOWED, TOO_DEEP, UNEXPECTED, found_or, inside};

@@ -7,9 +7,15 @@ use std::alloc::{AllocError, Global};
 use std::marker::Model;
 
 /// Names of types, in the order in which they were declared.
-#[derive(Drop)]
 pub struct TypeNames {
     names: IndexSet<Vec<u8>>,
+}
+
+impl Drop for TypeNames {
+    fn drop(self) {
+        let TypeNames { names } = self;
+        drop(names);
+    }
 }
 
 impl Model for TypeNames {

@@ -2,10 +2,10 @@
 ghost use Rattle.std.specs.Prelude.{◌≡◌, ◌≤◌, true, [], ◌∷◌, length, drop, IfOk, IfErr, MatchOption};
 ghost use Rattle.floyd_lex.specs.Token.{tokens_in};
 ghost use Rattle.floyd_grammar.specs.declared.stop.Stop.TheVariants as stop;
-ghost use Rattle.floyd_grammar.specs.Gives.{Gives, GivesAll};
-ghost use Rattle.floyd_grammar.specs.Parse.{ended, leads};
+ghost use Rattle.floyd_grammar.specs.GivesClauses.{Gives, GivesAll};
+ghost use Rattle.floyd_grammar.specs.ParseClauses.{ended, leads};
 ghost use Rattle.floyd_cparse_tokens.specs.Tokens.{sights, is_mark, is_word, is_name, is_type, is_plain, identifier_of, literal_of};
-ghost use Rattle.floyd_cparse_tokens.specs.Seen.{take_as, sights_from};
+ghost use Rattle.floyd_cparse_tokens.specs.SeenClauses.{take_as, sights_from};
 
 use floyd_grammar::{Fault, Stop};
 use floyd_lex::{TokenKind, Tokens};
@@ -13,12 +13,22 @@ use floyd_text::Place;
 use std::marker::Model;
 
 /// A token, from which those behind it can be seen.
-#[derive(Drop)]
 pub struct Sight<'a> {
     bytes: &'a [u8],
     tokens: &'a Tokens,
     at: usize,
     kind: TokenKind,
+}
+
+impl<'a> Drop for Sight<'a> {
+    fn drop(self) {
+        let Sight {
+            bytes: _,
+            tokens: _,
+            at: _,
+            kind: _,
+        } = self;
+    }
 }
 
 impl<'a> Model for Sight<'a> {
@@ -29,7 +39,7 @@ impl<'a> Model for Sight<'a> {
 
     ghost Value = { Sight };
 
-    ghost use Rattle.floyd_cparse_tokens.specs.Seen.{sight_at};
+    ghost use Rattle.floyd_cparse_tokens.specs.SeenClauses.{sight_at};
 
     ghost view = { λ s. sight_at s.bytes.now s.tokens.now s.at };
 
@@ -73,11 +83,20 @@ impl<'a> Sight<'a> {
 }
 
 /// The tokens of a source that are still to be read.
-#[derive(Drop)]
 pub struct Reader<'a> {
     bytes: &'a [u8],
     tokens: &'a Tokens,
     at: usize,
+}
+
+impl<'a> Drop for Reader<'a> {
+    fn drop(self) {
+        let Reader {
+            bytes: _,
+            tokens: _,
+            at: _,
+        } = self;
+    }
 }
 
 impl<'a> Model for Reader<'a> {
@@ -86,7 +105,7 @@ impl<'a> Model for Reader<'a> {
 
     ghost Value = { List Sight };
 
-    ghost use Rattle.floyd_cparse_tokens.specs.Seen.{sights_from};
+    ghost use Rattle.floyd_cparse_tokens.specs.SeenClauses.{sights_from};
 
     ghost view = { λ r. sights_from r.bytes.now r.tokens.now r.at };
 

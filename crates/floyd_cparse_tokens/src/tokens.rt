@@ -2,8 +2,8 @@
 ghost use Rattle.std.specs.Prelude.{◌≡◌, ◌<◌, ◌^◌, ◌≤◌, ◌+◌, pred, ◌&&◌, not, IfOk, Err, ◌∷◌};
 ghost use Rattle.floyd_cparse_tokens.specs.Tokens as t;
 ghost use Rattle.floyd_lex.specs.declared.kinds.TokenKind.TheVariants as k;
-ghost use Rattle.floyd_grammar.specs.Parse.{leads, one};
-ghost use Rattle.floyd_grammar.specs.Gives.{Gives};
+ghost use Rattle.floyd_grammar.specs.ParseClauses.{leads, one};
+ghost use Rattle.floyd_grammar.specs.GivesClauses.{Gives};
 
 use crate::names::TypeNames;
 use crate::sight::{Reader, Sight};
@@ -226,9 +226,9 @@ impl<'a> Sight<'a> {
     }
 
     /// What may stand here is taken unless it is too deep, and nothing else is blamed.
-    pub fn offered<A: Drop>(&self, room: u32, count: u64, found: Option<A>) -> Result<A, u8>
+    pub fn offer<A: Drop>(&self, room: u32, count: u64, found: Option<A>) -> Result<A, u8>
         requires { count < 2 ^ 40 }
-        ensures value { result ≡ t.offered room count self.now found }
+        ensures value { result ≡ t.offer room count self.now found }
         ensures room { IfOk result (λ _. count ≤ room + 1) }
     {
         match found {
@@ -239,7 +239,7 @@ impl<'a> Sight<'a> {
     }
 
     /// What must stand here is taken unless it is too deep, and everything else is blamed.
-    pub fn wanted<A: Drop>(
+    pub fn demand<A: Drop>(
         &self,
         types: &TypeNames,
         room: u32,
@@ -248,7 +248,7 @@ impl<'a> Sight<'a> {
         found: Option<A>,
     ) -> Result<A, u8>
         requires { count < 2 ^ 40 }
-        ensures { result ≡ t.wanted types.now room count special self.now found }
+        ensures { result ≡ t.demand types.now room count special self.now found }
     {
         match found {
             Some(_) if self.is_deep(room, count) => Err(TOO_DEEP),
@@ -299,8 +299,8 @@ impl<'a> Reader<'a> {
 }
 
 /// What closes, or ends what stands before, is never too deep.
-pub fn closing<A: Drop>(cause: u8, found: Option<A>) -> Result<A, u8>
-    ensures { result ≡ t.closing cause found }
+pub fn found_or<A: Drop>(cause: u8, found: Option<A>) -> Result<A, u8>
+    ensures { result ≡ t.found_or cause found }
 {
     match found {
         Some(value) => Ok(value),

@@ -22,11 +22,20 @@ pub enum StepOp {
 }
 
 /// An operator or cast before an operand, with the place of its first token.
-#[derive(Drop)]
 pub enum Prefix {
     Op(PrefixOp, Place),
     Step(StepOp, Place),
     Cast(TypeName, Place),
+}
+
+impl Drop for Prefix {
+    fn drop(self) {
+        match self {
+            Prefix::Op(prefix_op, _) => drop(prefix_op),
+            Prefix::Step(step_op, _) => drop(step_op),
+            Prefix::Cast(type_name, _) => drop(type_name),
+        }
+    }
 }
 
 /// `.` and `->`.
@@ -46,7 +55,6 @@ pub enum BinaryOp {
 
 /// An expression as it is written. `place` is that of the operator, the opening bracket or `sizeof`. Assignments, `++`,
 /// `--` and calls may stand anywhere in it. It is nested no deeper than a small multiple of the limit on depth.
-#[derive(Drop)]
 pub enum CExpr {
     Name(Identifier),
     Literal(Literal),
@@ -101,4 +109,84 @@ pub enum CExpr {
         place: Place,
         value: Boxed<CExpr>,
     },
+}
+
+impl Drop for CExpr {
+    fn drop(self) {
+        match self {
+            CExpr::Name(identifier) => drop(identifier),
+            CExpr::Literal(literal) => drop(literal),
+            CExpr::Parenthesised(expression) => drop(expression),
+            CExpr::Prefixed { prefixes, operand } => {
+                drop(prefixes);
+                drop(operand);
+            }
+            CExpr::SizeOf {
+                place: _,
+                type_name,
+            } => drop(type_name),
+            CExpr::PostfixStep {
+                operand,
+                op,
+                place: _,
+            } => {
+                drop(operand);
+                drop(op);
+            }
+            CExpr::Index {
+                array,
+                place: _,
+                index,
+            } => {
+                drop(array);
+                drop(index);
+            }
+            CExpr::Call {
+                function,
+                place: _,
+                arguments,
+            } => {
+                drop(function);
+                drop(arguments);
+            }
+            CExpr::Member {
+                operand,
+                op,
+                place: _,
+                field,
+            } => {
+                drop(operand);
+                drop(op);
+                drop(field);
+            }
+            CExpr::Binary {
+                left,
+                op: _,
+                place: _,
+                right,
+            } => {
+                drop(left);
+                drop(right);
+            }
+            CExpr::Conditional {
+                condition,
+                place: _,
+                then,
+                otherwise,
+            } => {
+                drop(condition);
+                drop(then);
+                drop(otherwise);
+            }
+            CExpr::Assign {
+                target,
+                op: _,
+                place: _,
+                value,
+            } => {
+                drop(target);
+                drop(value);
+            }
+        }
+    }
 }

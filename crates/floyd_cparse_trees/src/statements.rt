@@ -4,28 +4,56 @@ use floyd_text::Place;
 use sqlite_items::{Boxed, Items};
 
 /// A declared local variable, with the place of its `=` and its right side.
-#[derive(Drop)]
 pub struct LocalDeclarator {
     pub declarator: Declarator,
     pub initialiser: Option<(Place, CExpr)>,
 }
 
-#[derive(Drop)]
+impl Drop for LocalDeclarator {
+    fn drop(self) {
+        let LocalDeclarator {
+            declarator,
+            initialiser,
+        } = self;
+        drop(declarator);
+        drop(initialiser);
+    }
+}
+
 pub struct LocalDeclaration {
     pub specifiers: Specifiers,
     pub declarators: Items<LocalDeclarator>,
 }
 
+impl Drop for LocalDeclaration {
+    fn drop(self) {
+        let LocalDeclaration {
+            specifiers,
+            declarators,
+        } = self;
+        drop(specifiers);
+        drop(declarators);
+    }
+}
+
 #[cycle(statements)]
-#[derive(Drop)]
 pub enum BlockItem {
     Declaration(LocalDeclaration),
     Statement(CStatement),
 }
 
+impl Drop for BlockItem {
+    #[cycle(drop)]
+    fn drop(self) {
+        match self {
+            BlockItem::Declaration(local_declaration) => drop(local_declaration),
+            BlockItem::Statement(statement) => drop(statement),
+        }
+    }
+}
+
 /// A statement. `place` is that of its word, and of `while` in `do`.
 #[cycle(statements)]
-#[derive(Drop)]
 pub enum CStatement {
     Block(Items<BlockItem>),
     Empty,
@@ -64,4 +92,64 @@ pub enum CStatement {
         place: Place,
         value: Option<CExpr>,
     },
+}
+
+impl Drop for CStatement {
+    #[cycle(drop)]
+    fn drop(self) {
+        match self {
+            CStatement::Block(block_items) => drop(block_items),
+            CStatement::Empty => {}
+            CStatement::Effect(expression) => drop(expression),
+            CStatement::If {
+                place: _,
+                condition,
+                then,
+            } => {
+                drop(condition);
+                drop(then);
+            }
+            CStatement::IfElse {
+                place: _,
+                condition,
+                then,
+                otherwise,
+            } => {
+                drop(condition);
+                drop(then);
+                drop(otherwise);
+            }
+            CStatement::While {
+                place: _,
+                condition,
+                body,
+            } => {
+                drop(condition);
+                drop(body);
+            }
+            CStatement::Do {
+                body,
+                place: _,
+                condition,
+            } => {
+                drop(body);
+                drop(condition);
+            }
+            CStatement::For {
+                place: _,
+                first,
+                condition,
+                third,
+                body,
+            } => {
+                drop(first);
+                drop(condition);
+                drop(third);
+                drop(body);
+            }
+            CStatement::Break => {}
+            CStatement::Continue => {}
+            CStatement::Return { place: _, value } => drop(value),
+        }
+    }
 }

@@ -8,8 +8,8 @@ use Rattle.floyd_lex.specs.declared.kinds.Punctuator.TheVariants as p
 use Rattle.floyd_lex.specs.declared.kinds.Keyword.TheVariants as w
 use Rattle.floyd_grammar.specs.Phrase.{Phrase}
 use Rattle.floyd_grammar.specs.Phrase as phrase
-use Rattle.floyd_grammar.specs.Parse.{Parser, is_taken, is_blamed, is_meant}
-use Rattle.floyd_grammar.specs.Parse as parse
+use Rattle.floyd_grammar.specs.ParseClauses.{Parser, is_taken, is_blamed, is_meant}
+use Rattle.floyd_grammar.specs.ParseClauses as parse
 use Rattle.floyd_grammar.proofs.Exact.{Exact, nil_left, nil_right, token, token_solid, nothing}
 use Rattle.floyd_grammar.proofs.Seq.{seq, seq_open, seq_solid, token_then, made}
 use Rattle.floyd_grammar.proofs.Either.{either, either_sure, or_left, or_right}
@@ -25,8 +25,8 @@ use Rattle.floyd_cparse_trees.specs.declared.types.Star.{Star}
 use Rattle.floyd_cparse_tokens.specs.Tokens.{without_room, Sight, Types, is_mark, is_word, is_name, is_mark_kind, is_word_kind, is_name_kind}
 use Rattle.floyd_cparse_types.specs.Types as g
 use Rattle.floyd_cparse_types.specs.Types.{TypePhrases, extends, with_word, goes_on_declarator, is_named}
-use Rattle.floyd_cparse_types.specs.TypeReading as r
-use Rattle.floyd_cparse_types.specs.TypeReading.{TypeReaders}
+use Rattle.floyd_cparse_types.specs.TypeClauses as r
+use Rattle.floyd_cparse_types.specs.TypeClauses.{TypeReaders}
 use Rattle.floyd_cparse_tokens.proofs.TokenLemmas.{and_left, apart, or_cases, or_fails_left, or_fails_right, or_fails, not_true, not_false, mark_kind, there_place, closing_taken, closing_unless, closing_unless_either}
 use Rattle.floyd_cparse_types.proofs.TypeSets.{is_specifier, begins_specs, more_specs, begins_dtor, more_dtor, more_core, specifier_dtor, more_specifier, mark_ends}
 use Rattle.floyd_cparse_types.proofs.TypeSets.{unpreceded, unspecified, is_specifier_kind, begins_type_kind, begins_by_kind, core_begins, core_taken, core_blamed, core_unprecedes, absent_ends, suffix_core, suffix_goes_on, core_goes_on, suffix_meant, bare_specifier, bare_precedes}
@@ -130,7 +130,7 @@ module _ (types : Types) (room : ℕ) (ri : TypeReaders) (gi : TypePhrases) (I :
   unfolding r.after_core
   after_core_exact declared count (core_start.Name name) = loose (nothing (g.named name count) (more_core types declared))
   after_core_exact declared count (core_start.Open place) =
-      closed_any (λ (x : ReadDeclarator). g.inner_end types declared (pred room) x.end) (λ x. g.suffixed x (d.Parenthesised place x.tree) x.end.count) (more_core types declared) (I.dtor declared count)
+      closed_any (λ (x : ReadDeclarator). g.inner_end types declared (pred room) x.end) (λ x. g.with_suffix x (d.Parenthesised place x.tree) x.end.count) (more_core types declared) (I.dtor declared count)
       (λ u x d s e. inner_end_meant declared x s e)
 
   first_core : Declared → ℕ → ℕ → Sight → Bool
@@ -175,13 +175,13 @@ module _ (types : Types) (room : ℕ) (ri : TypeReaders) (gi : TypePhrases) (I :
   -- "[" [literal] "]" and "(" [params] ")"
   after_size_exact : (x : ReadDeclarator) (place : Place) (z : SizeStart) → Exact (r.after_size types room ri x place z) (g.after_size types room gi x place z) (λ s. true) (λ s. true) (λ y s. false)
   unfolding r.after_size
-  after_size_exact x place size_start.End = loose (nothing (g.suffixed x (d.Array x.tree place None) (x.end.count + 1)) (λ y s. false))
-  after_size_exact x place (size_start.Size literal) = loose (token_then (g.size_end types (pred room) (x.end.count + 1)) (λ _. nothing (g.suffixed x (d.Array x.tree place (Some literal)) (x.end.count + 1)) (λ y s. false)))
+  after_size_exact x place size_start.End = loose (nothing (g.with_suffix x (d.Array x.tree place None) (x.end.count + 1)) (λ y s. false))
+  after_size_exact x place (size_start.Size literal) = loose (token_then (g.size_end types (pred room) (x.end.count + 1)) (λ _. nothing (g.with_suffix x (d.Array x.tree place (Some literal)) (x.end.count + 1)) (λ y s. false)))
 
   after_suffix_exact : (x : ReadDeclarator) (z : SuffixStart) → Exact (r.after_suffix types room ri x z) (g.after_suffix types room gi x z) (λ s. true) (λ s. true) (λ y s. false)
   unfolding r.after_suffix
   after_suffix_exact x (suffix_start.Array place) = loose (token_then (g.size_token types (pred room) (x.end.count + 1)) (after_size_exact x place))
-  after_suffix_exact x (suffix_start.Function place) = made (λ all. g.suffixed x (d.Function x.tree place all.items) all.end.count) (λ y s. false) (params_exact (x.end.count + 1)) (λ u y d s e. refl)
+  after_suffix_exact x (suffix_start.Function place) = made (λ all. g.with_suffix x (d.Function x.tree place all.items) all.end.count) (λ y s. false) (params_exact (x.end.count + 1)) (λ u y d s e. refl)
 
   suffix_exact : (declared : Declared) (x : ReadDeclarator) → Exact (r.suffix types room ri declared x) (g.suffix types room gi declared x) (λ s. is_taken (g.suffix_token types declared room x.end s)) (λ s. is_blamed (g.suffix_token types declared room x.end s)) (λ y s. false)
   unfolding r.suffix
@@ -204,10 +204,10 @@ module _ (types : Types) (room : ℕ) (ri : TypeReaders) (gi : TypePhrases) (I :
 
   -- what stands behind the stars
   abbrev behind : List Star → Declared → ReadDeclarator → Parser Sight ReadDeclarator
-  behind stars declared x = parse.◌>>=◌ (parse.folded (r.begins_suffix types) g.latest (r.suffix types room ri declared) x) (λ (all : ReadDeclarator). parse.pure (record all { tree = g.starred stars all.tree }))
+  behind stars declared x = parse.◌>>=◌ (parse.folded (r.begins_suffix types) g.latest (r.suffix types room ri declared) x) (λ (all : ReadDeclarator). parse.pure (record all { tree = g.with_stars stars all.tree }))
 
   abbrev gbehind : List Star → Declared → ReadDeclarator → Phrase Sight ReadDeclarator
-  gbehind stars declared x = phrase.◌>>=◌ (phrase.folded g.latest (g.suffix types room gi declared) x) (λ (all : ReadDeclarator). phrase.pure (record all { tree = g.starred stars all.tree }))
+  gbehind stars declared x = phrase.◌>>=◌ (phrase.folded g.latest (g.suffix types room gi declared) x) (λ (all : ReadDeclarator). phrase.pure (record all { tree = g.with_stars stars all.tree }))
 
   abbrev rest : ℕ → Declared → List Star → Parser Sight ReadDeclarator
   rest count declared stars = parse.◌>>=◌ (r.core types room ri declared count (length stars)) (behind stars declared)
@@ -216,7 +216,7 @@ module _ (types : Types) (room : ℕ) (ri : TypeReaders) (gi : TypePhrases) (I :
   grest count declared stars = phrase.◌>>=◌ (g.core types room gi declared count (length stars)) (gbehind stars declared)
 
   behind_exact : (stars : List Star) (declared : Declared) (x : ReadDeclarator) → Exact (behind stars declared x) (gbehind stars declared x) (r.begins_suffix types x) (r.begins_suffix types x) (more_dtor declared)
-  behind_exact stars declared x = made (λ (all : ReadDeclarator). record all { tree = g.starred stars all.tree }) (more_dtor declared) (suffixes_exact declared x) (λ u y d s e. e)
+  behind_exact stars declared x = made (λ (all : ReadDeclarator). record all { tree = g.with_stars stars all.tree }) (more_dtor declared) (suffixes_exact declared x) (λ u y d s e. e)
 
   -- of nothing it is read only where none need stand there, and it is bare
   rest_nil : (count : ℕ) (declared : Declared) (stars : List Star) (y : ReadDeclarator) → (grest count declared stars).reads [] y → (is_named declared ≡ false) × (y.end ≡ (g.absent count (length stars)).end)

@@ -7,8 +7,8 @@ use Rattle.floyd_lex.specs.declared.kinds.Punctuator.TheVariants as p
 use Rattle.floyd_lex.specs.declared.kinds.Keyword.TheVariants as w
 use Rattle.floyd_grammar.specs.Phrase.{Phrase}
 use Rattle.floyd_grammar.specs.Phrase as phrase
-use Rattle.floyd_grammar.specs.Parse.{Parser, is_taken, is_blamed, is_meant}
-use Rattle.floyd_grammar.specs.Parse as parse
+use Rattle.floyd_grammar.specs.ParseClauses.{Parser, is_taken, is_blamed, is_meant}
+use Rattle.floyd_grammar.specs.ParseClauses as parse
 use Rattle.floyd_grammar.proofs.Exact.{Exact, nil_left, token, token_solid, nothing}
 use Rattle.floyd_grammar.proofs.Seq.{seq, seq_open, seq_solid, seq_solid_right, token_then, made}
 use Rattle.floyd_grammar.proofs.Either.{or_left, or_right}
@@ -29,11 +29,11 @@ use Rattle.floyd_cparse_types.specs.declared.values.ReadSpecifiers.{ReadSpecifie
 use Rattle.floyd_cparse_trees.specs.declared.types.Star.{Star}
 use Rattle.floyd_cparse_types.specs.declared.values.Tag.{Tag}
 use Rattle.floyd_cparse_types.specs.declared.values.Tag.TheVariants as tag
-use Rattle.floyd_cparse_tokens.specs.Tokens.{is_there, Sight, Types, is_mark, is_word, is_mark_kind, is_word_kind, offered, closing, place_if}
+use Rattle.floyd_cparse_tokens.specs.Tokens.{is_there, Sight, Types, is_mark, is_word, is_mark_kind, is_word_kind, offer, found_or, place_if}
 use Rattle.floyd_cparse_types.specs.Types as g
 use Rattle.floyd_cparse_types.specs.Types.{TypePhrases, extends, with_word, goes_on_declarator, is_named}
-use Rattle.floyd_cparse_types.specs.TypeReading as r
-use Rattle.floyd_cparse_types.specs.TypeReading.{TypeReaders}
+use Rattle.floyd_cparse_types.specs.TypeClauses as r
+use Rattle.floyd_cparse_types.specs.TypeClauses.{TypeReaders}
 use Rattle.floyd_cparse_tokens.proofs.TokenLemmas.{or_cases, or_fails_left, or_fails_right, or_fails, not_false, mark_kind, word_kind, there_place, closing_meant, closing_taken, closing_unless_either, offered_meant}
 use Rattle.floyd_cparse_types.proofs.TypeSets.{begins_specs, more_specs, begins_dtor, more_dtor, specifier_dtor, more_specifier, mark_ends, specs_brace, base_begins, base_const, base_brace}
 
@@ -44,10 +44,10 @@ meant_taken o e = or_left (is_taken o) (is_blamed o) e
 pub meant_blamed : {A : Type 0} (o : Result A ℕ) → is_blamed o ≡ true → is_meant o ≡ true
 meant_blamed o e = or_right (is_taken o) (is_blamed o) e
 
-pub offered_place : (room count : ℕ) (test : Bool) (s : Sight) → is_meant (offered room count s (place_if test s)) ≡ true → test ≡ true
+pub offered_place : (room count : ℕ) (test : Bool) (s : Sight) → is_meant (offer room count s (place_if test s)) ≡ true → test ≡ true
 offered_place room count test s e = there_place test s (offered_meant room count s (place_if test s) e)
 
-pub closing_place : (test : Bool) (s : Sight) → is_meant (closing 0 (place_if test s)) ≡ true → test ≡ true
+pub closing_place : (test : Bool) (s : Sight) → is_meant (found_or 0 (place_if test s)) ≡ true → test ≡ true
 closing_place test s e = there_place test s (closing_meant (place_if test s) e)
 
 -- what the readers one bracket further in keep to

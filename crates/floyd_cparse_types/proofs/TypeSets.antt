@@ -6,7 +6,7 @@ use Rattle.floyd_lex.specs.declared.kinds.TokenKind.TheVariants as k
 use Rattle.floyd_lex.specs.declared.kinds.Punctuator.{Punctuator}
 use Rattle.floyd_lex.specs.declared.kinds.Punctuator.TheVariants as p
 use Rattle.floyd_lex.specs.declared.kinds.Keyword.TheVariants as w
-use Rattle.floyd_grammar.specs.Parse.{is_taken, is_blamed, is_meant}
+use Rattle.floyd_grammar.specs.ParseClauses.{is_taken, is_blamed, is_meant}
 use Rattle.floyd_cparse_types.specs.declared.values.BaseStart.TheVariants as start
 use Rattle.floyd_cparse_types.specs.declared.values.CoreStart.TheVariants as core_start
 use Rattle.floyd_cparse_types.specs.declared.values.Declared.{Declared}
@@ -15,10 +15,10 @@ use Rattle.floyd_cparse_types.specs.declared.values.DeclaratorEnd.{DeclaratorEnd
 use Rattle.floyd_cparse_types.specs.declared.values.IntWords.{IntWords}
 use Rattle.floyd_cparse_types.specs.declared.values.ReadDeclarator.{ReadDeclarator}
 use Rattle.floyd_cparse_types.specs.declared.values.ReadSpecifiers.{ReadSpecifiers}
-use Rattle.floyd_cparse_tokens.specs.Tokens.{is_there, Sight, Types, is_mark, is_word, is_name, is_mark_kind, is_word_kind, is_name_kind, is_integer_word, is_type, is_type_text, is_plain, begins_type, identifier_of, is_deep, blame, offered, wanted}
+use Rattle.floyd_cparse_tokens.specs.Tokens.{is_there, Sight, Types, is_mark, is_word, is_name, is_mark_kind, is_word_kind, is_name_kind, is_integer_word, is_type, is_type_text, is_plain, begins_type, identifier_of, is_deep, blame, offer, demand}
 use Rattle.floyd_cparse_types.specs.declared.values.SuffixStart.TheVariants as suffix_start
-use Rattle.floyd_cparse_types.specs.Types.{suffix_token, has_size, core_token, shadowing, absent, extends, with_word, no_words, start_of_base, start_of_word, goes_on_declarator, may_precede, is_parameter, start_of_core, name_declared, core_name, is_named, is_shadowed, opens_parameters, base_token}
-use Rattle.floyd_cparse_types.specs.TypeReading.{begins_core, begins_suffix}
+use Rattle.floyd_cparse_types.specs.Types.{suffix_token, has_size, core_token, shadow_cause, absent, extends, with_word, no_words, start_of_base, start_of_word, goes_on_declarator, may_precede, is_parameter, start_of_core, name_declared, core_name, is_named, is_shadowed, opens_parameters, base_token}
+use Rattle.floyd_cparse_types.specs.TypeClauses.{begins_core, begins_suffix}
 use Rattle.floyd_cparse_tokens.proofs.TokenLemmas.{and_left, and_right, apart, or_cases, or_fails_left, or_fails_right, or_fails, mark_kind, and-false_right, wanted_taken, offered_meant}
 use Rattle.floyd_grammar.proofs.Either.{or_left, or_right}
 
@@ -175,14 +175,14 @@ start_begins types s e = go (is_word w.Void s) (is_word w.Struct s) (is_type typ
 pub base_begins : (types : Types) (room count : ℕ) (s : Sight) → is_taken (base_token types room count s) ≡ true → begins_specs types s ≡ true
 base_begins types room count s e = go (is_word w.Const s) refl e
   where
-    go : (c : Bool) → is_word w.Const s ≡ c → is_taken (if c then Err 0 else wanted types room count 0 s (start_of_base types s)) ≡ true → begins_specs types s ≡ true
+    go : (c : Bool) → is_word w.Const s ≡ c → is_taken (if c then Err 0 else demand types room count 0 s (start_of_base types s)) ≡ true → begins_specs types s ≡ true
     go true f h = absurd (true≢false (sym h))
     go false f h = start_begins types s (wanted_taken types room count 0 s (start_of_base types s) h)
 
 pub base_const : (types : Types) (room count : ℕ) (s : Sight) → is_meant (base_token types room count s) ≡ true → is_word w.Const s ≡ false
 base_const types room count s e = go (is_word w.Const s) e
   where
-    go : (c : Bool) → is_meant (if c then Err 0 else wanted types room count 0 s (start_of_base types s)) ≡ true → c ≡ false
+    go : (c : Bool) → is_meant (if c then Err 0 else demand types room count 0 s (start_of_base types s)) ≡ true → c ≡ false
     go true h = absurd (true≢false (sym h))
     go false h = refl
 
@@ -253,19 +253,19 @@ pub core_taken : (types : Types) (declared : Declared) (room count run : ℕ) (s
 core_taken types declared room count run s e = go (may_precede run s) (is_named declared) (is_shadowed types declared s) e
   where
     go : (a b c : Bool)
-        → is_taken (if a then Err 0 else if b then wanted types room (count + run) (shadowing types declared s) s (start_of_core types declared s) else if c then Err (blame types room (count + run) 1 s) else offered room (count + run) s (start_of_core types declared s)) ≡ true
+        → is_taken (if a then Err 0 else if b then demand types room (count + run) (shadow_cause types declared s) s (start_of_core types declared s) else if c then Err (blame types room (count + run) 1 s) else offer room (count + run) s (start_of_core types declared s)) ≡ true
         → is_there (start_of_core types declared s) ≡ true
     go true b c h = absurd (true≢false (sym h))
-    go false true c h = wanted_taken types room (count + run) (shadowing types declared s) s (start_of_core types declared s) h
+    go false true c h = wanted_taken types room (count + run) (shadow_cause types declared s) s (start_of_core types declared s) h
     go false false true h = absurd (true≢false (sym h))
-    go false false false h = offered_meant room (count + run) s (start_of_core types declared s) (or_left (is_taken (offered room (count + run) s (start_of_core types declared s))) (is_blamed (offered room (count + run) s (start_of_core types declared s))) h)
+    go false false false h = offered_meant room (count + run) s (start_of_core types declared s) (or_left (is_taken (offer room (count + run) s (start_of_core types declared s))) (is_blamed (offer room (count + run) s (start_of_core types declared s))) h)
 
 -- what must not stand before a core is refused elsewhere
 pub core_unprecedes : (types : Types) (declared : Declared) (room count run : ℕ) (s : Sight) → is_meant (core_token types declared room count run s) ≡ true → may_precede run s ≡ false
 core_unprecedes types declared room count run s e = go (may_precede run s) e
   where
     go : (a : Bool)
-        → is_meant (if a then Err 0 else if is_named declared then wanted types room (count + run) (shadowing types declared s) s (start_of_core types declared s) else if is_shadowed types declared s then Err (blame types room (count + run) 1 s) else offered room (count + run) s (start_of_core types declared s)) ≡ true
+        → is_meant (if a then Err 0 else if is_named declared then demand types room (count + run) (shadow_cause types declared s) s (start_of_core types declared s) else if is_shadowed types declared s then Err (blame types room (count + run) 1 s) else offer room (count + run) s (start_of_core types declared s)) ≡ true
         → a ≡ false
     go true h = absurd (true≢false (sym h))
     go false h = refl
@@ -275,7 +275,7 @@ pub core_blamed : (types : Types) (declared : Declared) (room count run : ℕ) (
 core_blamed types declared room count run s n e = go (may_precede run s) (is_named declared) n (is_shadowed types declared s) e
   where
     go : (a b : Bool) → b ≡ false → (c : Bool)
-        → is_meant (if a then Err 0 else if b then wanted types room (count + run) (shadowing types declared s) s (start_of_core types declared s) else if c then Err (blame types room (count + run) 1 s) else offered room (count + run) s (start_of_core types declared s)) ≡ true
+        → is_meant (if a then Err 0 else if b then demand types room (count + run) (shadow_cause types declared s) s (start_of_core types declared s) else if c then Err (blame types room (count + run) 1 s) else offer room (count + run) s (start_of_core types declared s)) ≡ true
         → (is_there (start_of_core types declared s) || c) ≡ true
     go true b n c h = absurd (true≢false (sym h))
     go false true n c h = absurd (true≢false n)
@@ -384,7 +384,7 @@ pub suffix_meant : (types : Types) (declared : Declared) (room : ℕ) (x : ReadD
 suffix_meant types declared room x s e = go (is_mark p.OpenParen s && not (x.end.bare && not (opens_parameters types s.behind))) (is_mark p.OpenBracket s) e
   where
     go : (a b : Bool)
-        → is_meant (if a then offered room (x.end.count + x.end.stars) s (Some (suffix_start.Function s.token.place)) else if b then (if has_size declared s.behind || is_deep room (x.end.count + x.end.stars) s then offered room (x.end.count + x.end.stars) s (Some (suffix_start.Array s.token.place)) else Err 2) else Err 0) ≡ true
+        → is_meant (if a then offer room (x.end.count + x.end.stars) s (Some (suffix_start.Function s.token.place)) else if b then (if has_size declared s.behind || is_deep room (x.end.count + x.end.stars) s then offer room (x.end.count + x.end.stars) s (Some (suffix_start.Array s.token.place)) else Err 2) else Err 0) ≡ true
         → (b || a) ≡ true
     go true b h = or_right b true refl
     go false true h = refl

@@ -3,7 +3,7 @@ use Rattle.std.proofs.Common.{◌≡◌, ℕ, zero, suc, ◌+◌, ◌-◌, pred,
 use Rattle.std.specs.Prelude.{None}
 use Rattle.floyd_text.specs.declared.place.Place.{Place}
 use Rattle.floyd_lex.specs.declared.kinds.Punctuator.TheVariants as p
-use Rattle.floyd_grammar.specs.Parse.{Parser, one, ◌>>◌}
+use Rattle.floyd_grammar.specs.ParseClauses.{Parser, one, ◌>>◌}
 use Rattle.floyd_cparse_types.specs.declared.values.Declared.{Declared}
 use Rattle.floyd_cparse_types.specs.declared.values.Declared.TheVariants as of
 use Rattle.floyd_cparse_types.specs.declared.values.Parameters.{Parameters}
@@ -14,7 +14,7 @@ use Rattle.floyd_cparse_types.specs.declared.values.SuffixStart.{SuffixStart}
 use Rattle.floyd_cparse_types.specs.declared.values.SuffixStart.TheVariants as suffix_start
 use Rattle.floyd_cparse_tokens.specs.Tokens.{Sight, Types, is_mark, without_room}
 use Rattle.floyd_cparse_types.specs.Types.{star_token, comma_token, plus_declarator, first_declarator, field_end, parameter_comma, parameters_end, no_parameters_end, plus_parameter, suffix_token, size_token, size_end}
-use Rattle.floyd_cparse_types.specs.TypeReading.{within, star, field_declarators, field, parameter, parameters, parameter_list, empty_parameters, params, after_size, after_suffix, suffix, specs, dtor, nothing_left}
+use Rattle.floyd_cparse_types.specs.TypeClauses.{within, star, field_declarators, field, parameter, parameters, parameter_list, empty_parameters, params, after_size, after_suffix, suffix, specs, dtor, nothing_left}
 use Rattle.floyd_cparse_types.proofs.TypeExact.{consts_exact}
 use Rattle.floyd_cparse_types.proofs.DeclaratorExact.{within_exact}
 use Rattle.floyd_cparse_tokens.proofs.Shrinks.{Shrinks, Eats, shrinks, one_eats, pure_shrinks, then_shrinks, then_eats, either_shrinks, folded_shrinks, exact_shrinks, exact_eats}

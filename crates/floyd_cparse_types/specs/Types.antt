@@ -49,7 +49,7 @@ use Rattle.floyd_cparse_types.specs.declared.values.SuffixStart.{SuffixStart}
 use Rattle.floyd_cparse_types.specs.declared.values.SuffixStart.TheVariants as suffix_start
 use Rattle.floyd_cparse_types.specs.declared.values.Tag.{Tag}
 use Rattle.floyd_cparse_types.specs.declared.values.Tag.TheVariants as tag
-use Rattle.floyd_cparse_tokens.specs.Tokens.{is_there, without_room, Sight, Types, is_mark, is_word, is_name, is_type, is_plain, identifier_of, literal_of, is_literal_token, next_is, is_mark_kind, is_integer_word, begins_type, unexpected, shadowed, left_out, is_deep, blame, offered, wanted, closing, place_if}
+use Rattle.floyd_cparse_tokens.specs.Tokens.{is_there, without_room, Sight, Types, is_mark, is_word, is_name, is_type, is_plain, identifier_of, literal_of, is_literal_token, next_is, is_mark_kind, is_integer_word, begins_type, unexpected, shadowed, left_out, is_deep, blame, offer, demand, found_or, place_if}
 
 -- The words of an integer type: what one more word makes of them, where it may stand beside them.
 abbrev pub no_words : IntWords
@@ -105,7 +105,7 @@ extends (Some words) kind = is_there (with_word kind words)
 
 -- "const"
 abbrev pub const_token : ℕ → ℕ → Sight → Result Place ℕ
-const_token room count s = offered room count s (place_if (is_word w.Const s) s)
+const_token room count s = offer room count s (place_if (is_word w.Const s) s)
 
 abbrev pub keep_first : Option Place → Place → Option Place
 keep_first None place = Some place
@@ -121,7 +121,7 @@ latest old new = new
 
 -- one word more of an integer type
 abbrev pub word_token : ℕ → ℕ → IntWords → Sight → Result IntWords ℕ
-word_token room count words s = offered room count s (with_word s.token.kind words)
+word_token room count words s = offer room count s (with_word s.token.kind words)
 
 abbrev pub int_words : ℕ → ℕ → IntWords → Phrase Sight IntWords
 int_words room count words = folded latest (λ words. one (word_token room count words)) words
@@ -207,37 +207,37 @@ start_of_core types declared s =
     if is_mark p.OpenParen s && (is_named declared || not (opens_parameters types s.behind)) then Some (core_start.Open s.token.place)
     else core_name (name_declared types declared s)
 
-abbrev pub shadowing : Types → Declared → Sight → ℕ
-shadowing types declared s = if is_shadowed types declared s then shadowed else unexpected
+abbrev pub shadow_cause : Types → Declared → Sight → ℕ
+shadow_cause types declared s = if is_shadowed types declared s then shadowed else unexpected
 
 -- it must stand there for what has a name, and may for what has none
 abbrev pub core_token : Types → Declared → ℕ → ℕ → ℕ → Sight → Result CoreStart ℕ
 core_token types declared room count stars s =
     if may_precede stars s then Err unexpected
-    else if is_named declared then wanted types room (count + stars) (shadowing types declared s) s (start_of_core types declared s)
+    else if is_named declared then demand types room (count + stars) (shadow_cause types declared s) s (start_of_core types declared s)
     else if is_shadowed types declared s then Err (blame types room (count + stars) shadowed s)
-    else offered room (count + stars) s (start_of_core types declared s)
+    else offer room (count + stars) s (start_of_core types declared s)
 
 -- a part behind a declarator
 abbrev pub suffix_token : Types → Declared → ℕ → DeclaratorEnd → Sight → Result SuffixStart ℕ
 suffix_token types declared room end s =
-    if is_mark p.OpenParen s && not (end.bare && not (opens_parameters types s.behind)) then offered room (end.count + end.stars) s (Some (suffix_start.Function s.token.place))
-    else if is_mark p.OpenBracket s then (if has_size declared s.behind || is_deep room (end.count + end.stars) s then offered room (end.count + end.stars) s (Some (suffix_start.Array s.token.place)) else Err left_out)
+    if is_mark p.OpenParen s && not (end.bare && not (opens_parameters types s.behind)) then offer room (end.count + end.stars) s (Some (suffix_start.Function s.token.place))
+    else if is_mark p.OpenBracket s then (if has_size declared s.behind || is_deep room (end.count + end.stars) s then offer room (end.count + end.stars) s (Some (suffix_start.Array s.token.place)) else Err left_out)
     else Err unexpected
 
 -- "]" is not as deep as what stands in the brackets
 abbrev pub size_token : Types → ℕ → ℕ → Sight → Result SizeStart ℕ
 size_token types room count s =
-    if is_mark p.CloseBracket s then Ok size_start.End else wanted types room count unexpected s (option_map size_start.Size (literal_of s))
+    if is_mark p.CloseBracket s then Ok size_start.End else demand types room count unexpected s (option_map size_start.Size (literal_of s))
 
 -- with a part behind it
-abbrev pub suffixed : ReadDeclarator → Declarator → ℕ → ReadDeclarator
-suffixed declarator tree count = record { tree = tree; name = declarator.name; end = record { count = count; stars = 0; bare = false } }
+abbrev pub with_suffix : ReadDeclarator → Declarator → ℕ → ReadDeclarator
+with_suffix declarator tree count = record { tree = tree; name = declarator.name; end = record { count = count; stars = 0; bare = false } }
 
 -- with its stars, the first of which stands outermost
-abbrev pub starred : List Star → Declarator → Declarator
-starred [] core = core
-starred (star ∷ stars) core = d.Pointer (star ∷ stars) core
+abbrev pub with_stars : List Star → Declarator → Declarator
+with_stars [] core = core
+with_stars (star ∷ stars) core = d.Pointer (star ∷ stars) core
 
 -- "void" alone is no parameter
 abbrev pub is_void : Base → Bool
@@ -265,48 +265,48 @@ plus_declarator all next = record { items = all.items ++ next.tree ∷ []; end =
 
 -- Tokens of the productions.
 abbrev pub comma_token : Sight → Result Place ℕ
-comma_token s = closing unexpected (place_if (is_mark p.Comma s) s)
+comma_token s = found_or unexpected (place_if (is_mark p.Comma s) s)
 
 abbrev pub close_token : Sight → Option Place
 close_token s = place_if (is_mark p.CloseParen s) s
 
 abbrev pub brace_end : Sight → Result Place ℕ
-brace_end s = closing unexpected (place_if (is_mark p.CloseBrace s) s)
+brace_end s = found_or unexpected (place_if (is_mark p.CloseBrace s) s)
 
 -- `:` behind a field begins a bit-field
 abbrev pub bit_field : Sight → ℕ
 bit_field s = if is_mark p.Colon s then left_out else unexpected
 
 abbrev pub field_end : Types → ℕ → DeclaratorEnd → Sight → Result Place ℕ
-field_end types room end s = closing (if is_mark p.Comma s then unexpected else after_declarator types of.Field room end (bit_field s) s) (place_if (is_mark p.Semicolon s) s)
+field_end types room end s = found_or (if is_mark p.Comma s then unexpected else after_declarator types of.Field room end (bit_field s) s) (place_if (is_mark p.Semicolon s) s)
 
 abbrev pub fields_token : Types → ℕ → ℕ → Sight → Result Place ℕ
-fields_token types room count s = wanted types room count unexpected s (place_if (is_mark p.OpenBrace s) s)
+fields_token types room count s = demand types room count unexpected s (place_if (is_mark p.OpenBrace s) s)
 
 abbrev pub tag_token : Types → ℕ → ℕ → Sight → Result Tag ℕ
-tag_token types room count s = wanted types room count unexpected s (tag_of s)
+tag_token types room count s = demand types room count unexpected s (tag_of s)
 
 abbrev pub base_token : Types → ℕ → ℕ → Sight → Result BaseStart ℕ
-base_token types room count s = if is_word w.Const s then Err unexpected else wanted types room count unexpected s (start_of_base types s)
+base_token types room count s = if is_word w.Const s then Err unexpected else demand types room count unexpected s (start_of_base types s)
 
 abbrev pub star_token : ℕ → ℕ → Sight → Result Place ℕ
-star_token room count s = offered room count s (place_if (is_mark p.Star s) s)
+star_token room count s = offer room count s (place_if (is_mark p.Star s) s)
 
 abbrev pub parameter_comma : ℕ → DeclaratorEnd → Sight → Result Place ℕ
-parameter_comma room end s = offered room (end.count + end.stars) s (place_if (is_mark p.Comma s) s)
+parameter_comma room end s = offer room (end.count + end.stars) s (place_if (is_mark p.Comma s) s)
 
 abbrev pub parameters_end : Types → ℕ → DeclaratorEnd → Sight → Result Place ℕ
 parameters_end types room end s =
-    closing (if is_mark p.Comma s then unexpected else after_declarator types of.Parameter room end unexpected s) (close_token s)
+    found_or (if is_mark p.Comma s then unexpected else after_declarator types of.Parameter room end unexpected s) (close_token s)
 
 abbrev pub no_parameters_end : Sight → Result Place ℕ
-no_parameters_end s = closing unexpected (close_token s)
+no_parameters_end s = found_or unexpected (close_token s)
 
 abbrev pub inner_end : Types → Declared → ℕ → DeclaratorEnd → Sight → Result Place ℕ
-inner_end types declared room end s = closing (after_declarator types declared room end unexpected s) (close_token s)
+inner_end types declared room end s = found_or (after_declarator types declared room end unexpected s) (close_token s)
 
 abbrev pub size_end : Types → ℕ → ℕ → Sight → Result Place ℕ
-size_end types room count s = closing (blame types room count unexpected s) (place_if (is_mark p.CloseBracket s) s)
+size_end types room count s = found_or (blame types room count unexpected s) (place_if (is_mark p.CloseBracket s) s)
 
 -- What is built.
 abbrev pub plus_field : List FieldDeclaration → FieldDeclaration → List FieldDeclaration
@@ -445,7 +445,7 @@ module _ (types : Types) (room : ℕ) (inner : TypePhrases) where
   after_core declared count (core_start.Open place) = do
     declarator ← inner.dtor declared count
     _ ← one (inner_end types declared (pred room) declarator.end)
-    pure (suffixed declarator (d.Parenthesised place declarator.tree) declarator.end.count)
+    pure (with_suffix declarator (d.Parenthesised place declarator.tree) declarator.end.count)
 
   abbrev pub present : Declared → ℕ → ℕ → Phrase Sight ReadDeclarator
   present declared count run = one (core_token types declared room count run) >>= after_core declared count
@@ -459,16 +459,16 @@ module _ (types : Types) (room : ℕ) (inner : TypePhrases) where
 
   -- "[" [literal] "]" and "(" [params] ")" behind it
   abbrev pub after_size : ReadDeclarator → Place → SizeStart → Phrase Sight ReadDeclarator
-  after_size declarator place size_start.End = pure (suffixed declarator (d.Array declarator.tree place None) (declarator.end.count + 1))
+  after_size declarator place size_start.End = pure (with_suffix declarator (d.Array declarator.tree place None) (declarator.end.count + 1))
   after_size declarator place (size_start.Size literal) = do
     _ ← one (size_end types (pred room) (declarator.end.count + 1))
-    pure (suffixed declarator (d.Array declarator.tree place (Some literal)) (declarator.end.count + 1))
+    pure (with_suffix declarator (d.Array declarator.tree place (Some literal)) (declarator.end.count + 1))
 
   abbrev pub after_suffix : ReadDeclarator → SuffixStart → Phrase Sight ReadDeclarator
   after_suffix declarator (suffix_start.Array place) = one (size_token types (pred room) (declarator.end.count + 1)) >>= after_size declarator place
   after_suffix declarator (suffix_start.Function place) = do
     all ← params (declarator.end.count + 1)
-    pure (suffixed declarator (d.Function declarator.tree place all.items) all.end.count)
+    pure (with_suffix declarator (d.Function declarator.tree place all.items) all.end.count)
 
   abbrev pub suffix : Declared → ReadDeclarator → Phrase Sight ReadDeclarator
   suffix declared declarator = one (suffix_token types declared room declarator.end) >>= after_suffix declarator
@@ -479,7 +479,7 @@ module _ (types : Types) (room : ℕ) (inner : TypePhrases) where
     before ← stars count
     first ← core declared count (length before)
     all ← folded latest (suffix declared) first
-    pure (record all { tree = starred before all.tree })
+    pure (record all { tree = with_stars before all.tree })
 
 -- The productions where `n` less one is left: none where nothing is.
 abbrev pub nothing_left : TypePhrases

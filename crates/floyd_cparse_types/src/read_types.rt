@@ -1,10 +1,10 @@
 //! Readers of specifiers and declarators.
 ghost use Rattle.std.specs.Prelude.{◌≡◌, ◌<◌, ◌^◌, ◌≤◌, ◌+◌, IfOk, length, None, false};
 ghost use Rattle.floyd_cparse_types.specs.Types as t;
-ghost use Rattle.floyd_cparse_types.specs.TypeReading as r;
-ghost use Rattle.floyd_cparse_types.specs.TypeReading.{within};
+ghost use Rattle.floyd_cparse_types.specs.TypeClauses as r;
+ghost use Rattle.floyd_cparse_types.specs.TypeClauses.{within};
 ghost use Rattle.floyd_cparse_types.specs.declared.values.SuffixStart.TheVariants as suffix_start;
-ghost use Rattle.floyd_grammar.specs.Gives.{Gives};
+ghost use Rattle.floyd_grammar.specs.GivesClauses.{Gives};
 
 use crate::take_types::{
     take_base_start, take_brace_end, take_comma, take_const, take_core, take_field_end,
@@ -25,7 +25,7 @@ use sqlite_items::{Boxed, Items};
 use std::alloc::{AllocError, Global};
 
 /// `{"const"}`
-#[tactic(auto, unfolding(crate::specs::TypeReading::consts))]
+#[tactic(auto, unfolding(crate::specs::TypeClauses::consts))]
 fn read_consts(reader: &mut Reader<'_>, room: u32, count: u64) -> Result<Option<Place>, Stop>
     requires { count < 2 ^ 40 }
     ensures { Gives result reader.new (r.consts room count None reader.old) }
@@ -46,7 +46,7 @@ fn keep_first(first: Option<Place>, place: Place) -> Option<Place>
     }
 }
 
-#[tactic(auto, unfolding(crate::specs::TypeReading::int_words))]
+#[tactic(auto, unfolding(crate::specs::TypeClauses::int_words))]
 fn read_int_words(
     reader: &mut Reader<'_>,
     room: u32,
@@ -64,7 +64,7 @@ fn read_int_words(
 }
 
 /// `"*" {"const"}`
-#[tactic(auto, unfolding(crate::specs::TypeReading::star))]
+#[tactic(auto, unfolding(crate::specs::TypeClauses::star))]
 fn read_star(reader: &mut Reader<'_>, room: u32, count: u64) -> Result<Star, Stop>
     requires { count < 2 ^ 34 }
     ensures value { Gives result reader.new (r.star room count reader.old) }
@@ -76,7 +76,7 @@ fn read_star(reader: &mut Reader<'_>, room: u32, count: u64) -> Result<Star, Sto
 }
 
 /// `{"*" {"const"}}`
-#[tactic(auto, unfolding(crate::specs::TypeReading::stars))]
+#[tactic(auto, unfolding(crate::specs::TypeClauses::stars))]
 fn read_stars(
     alloc: Global,
     reader: &mut Reader<'_>,
@@ -113,7 +113,7 @@ pub fn read_specs(
 }
 
 #[cycle(declarators)]
-#[tactic(auto, unfolding(crate::specs::TypeReading::specs))]
+#[tactic(auto, unfolding(crate::specs::TypeClauses::specs))]
 fn read_specs_inside(
     alloc: Global,
     reader: &mut Reader<'_>,
@@ -151,7 +151,7 @@ fn specified(base: Base, constant: Option<Place>, words: Option<IntWords>) -> Re
 }
 
 #[cycle(declarators)]
-#[tactic(auto, unfolding(crate::specs::TypeReading::base, crate::specs::TypeReading::after_base_start, crate::specs::TypeReading::after_tag))]
+#[tactic(auto, unfolding(crate::specs::TypeClauses::base, crate::specs::TypeClauses::after_base_start, crate::specs::TypeClauses::after_tag))]
 fn read_base(
     alloc: Global,
     reader: &mut Reader<'_>,
@@ -191,7 +191,7 @@ fn wordless(tree: Base) -> ReadBase
 
 /// The fields of a struct, at least one, and `}`.
 #[cycle(declarators)]
-#[tactic(auto, unfolding(crate::specs::TypeReading::fields, crate::specs::TypeReading::field_list))]
+#[tactic(auto, unfolding(crate::specs::TypeClauses::fields, crate::specs::TypeClauses::field_list))]
 fn read_fields(
     alloc: Global,
     reader: &mut Reader<'_>,
@@ -214,7 +214,7 @@ fn read_fields(
 
 /// `specs dtor {"," dtor} ";"`
 #[cycle(declarators)]
-#[tactic(auto, unfolding(crate::specs::TypeReading::field))]
+#[tactic(auto, unfolding(crate::specs::TypeClauses::field))]
 fn read_field(
     alloc: Global,
     reader: &mut Reader<'_>,
@@ -235,7 +235,7 @@ fn read_field(
 
 /// `dtor {"," dtor}`
 #[cycle(declarators)]
-#[tactic(auto, unfolding(crate::specs::TypeReading::field_declarators))]
+#[tactic(auto, unfolding(crate::specs::TypeClauses::field_declarators))]
 fn read_field_declarators(
     alloc: Global,
     reader: &mut Reader<'_>,
@@ -297,7 +297,7 @@ pub fn read_dtor(
 }
 
 #[cycle(declarators)]
-#[tactic(auto, unfolding(crate::specs::TypeReading::dtor))]
+#[tactic(auto, unfolding(crate::specs::TypeClauses::dtor))]
 fn read_dtor_inside(
     alloc: Global,
     reader: &mut Reader<'_>,
@@ -310,25 +310,22 @@ fn read_dtor_inside(
     ensures { Gives result reader.new (r.dtor types.now room (within types.now room) declared count reader.old) }
 {
     let before = read_stars(alloc, reader, room, count)?;
-    let first = read_core(
-        alloc,
-        reader,
-        types,
-        declared,
-        room,
+    let end = DeclaratorEnd {
         count,
-        before.len() as u32,
-    )?;
+        stars: before.len() as u32,
+        bare: true,
+    };
+    let first = read_core(alloc, reader, types, declared, room, end)?;
     let all = read_suffixes(alloc, reader, types, declared, room, first)?;
     Ok(ReadDeclarator {
-        tree: starred(alloc, before, all.tree)?,
+        tree: with_stars(alloc, before, all.tree)?,
         name: all.name,
         end: all.end,
     })
 }
 
-fn starred(alloc: Global, stars: Items<Star>, core: Declarator) -> Result<Declarator, AllocError>
-    ensures { IfOk result (λ x. x ≡ t.starred stars core) }
+fn with_stars(alloc: Global, stars: Items<Star>, core: Declarator) -> Result<Declarator, AllocError>
+    ensures { IfOk result (λ x. x ≡ t.with_stars stars core) }
 {
     if stars.is_empty() {
         Ok(core)
@@ -340,32 +337,31 @@ fn starred(alloc: Global, stars: Items<Star>, core: Declarator) -> Result<Declar
     }
 }
 
-/// A name or a declarator in parentheses, where there is one.
+/// A name or a declarator in parentheses, where there is one, behind stars that end so.
 #[cycle(declarators)]
-#[tactic(auto, unfolding(crate::specs::TypeReading::core, crate::specs::TypeReading::core_by, crate::specs::TypeReading::present, crate::specs::TypeReading::after_core))]
+#[tactic(auto, unfolding(crate::specs::TypeClauses::core, crate::specs::TypeClauses::core_by, crate::specs::TypeClauses::present, crate::specs::TypeClauses::after_core))]
 fn read_core(
     alloc: Global,
     reader: &mut Reader<'_>,
     types: &TypeNames,
     declared: Declared,
     room: u32,
-    count: u32,
-    stars: u32,
+    end: DeclaratorEnd,
 ) -> Result<ReadDeclarator, Stop>
     requires { room ≤ 200 }
-    ensures { Gives result reader.new (r.core types.now room (within types.now room) declared count stars reader.old) }
+    ensures { Gives result reader.new (r.core types.now room (within types.now room) declared end.count end.stars reader.old) }
 {
     if !declared.is_named() && !leads_core(reader, types, declared) {
-        return Ok(absent(count, stars));
+        return Ok(absent(end.count, end.stars));
     }
-    match take_core(alloc, reader, types, declared, room, count, stars)? {
+    match take_core(alloc, reader, types, declared, room, end)? {
         CoreStart::Name(name) => Ok(ReadDeclarator {
             name: Some(name.name.share()?),
             tree: Declarator::Name(name),
-            end: closed_end(count),
+            end: closed_end(end.count),
         }),
         CoreStart::Open(place) => {
-            let inner = read_dtor(alloc, reader, types, declared, room, count)?;
+            let inner = read_dtor(alloc, reader, types, declared, room, end.count)?;
             take_inner_end(reader, types, declared, inside(room), inner.end)?;
             Ok(ReadDeclarator {
                 tree: Declarator::Parenthesised {
@@ -425,7 +421,7 @@ fn read_suffixes(
 
 /// `"[" [literal] "]"` or `"(" [params] ")"` behind a declarator.
 #[cycle(declarators)]
-#[tactic(auto, unfolding(crate::specs::TypeReading::suffix, crate::specs::TypeReading::after_suffix))]
+#[tactic(auto, unfolding(crate::specs::TypeClauses::suffix, crate::specs::TypeClauses::after_suffix))]
 fn read_suffix(
     alloc: Global,
     reader: &mut Reader<'_>,
@@ -455,7 +451,7 @@ fn read_suffix(
 }
 
 /// `[literal] "]"` behind a declarator and `[`.
-#[tactic(auto, unfolding(crate::specs::TypeReading::after_suffix, crate::specs::TypeReading::after_size))]
+#[tactic(auto, unfolding(crate::specs::TypeClauses::after_suffix, crate::specs::TypeClauses::after_size))]
 fn read_array(
     alloc: Global,
     reader: &mut Reader<'_>,
@@ -489,7 +485,7 @@ fn read_array(
 
 /// `[params] ")"`
 #[cycle(declarators)]
-#[tactic(auto, unfolding(crate::specs::TypeReading::params, crate::specs::TypeReading::empty_parameters, crate::specs::TypeReading::parameter_list))]
+#[tactic(auto, unfolding(crate::specs::TypeClauses::params, crate::specs::TypeClauses::empty_parameters, crate::specs::TypeClauses::parameter_list))]
 fn read_parameters(
     alloc: Global,
     reader: &mut Reader<'_>,
@@ -517,7 +513,7 @@ fn read_parameters(
 
 /// `specs pdtor {"," specs pdtor}`
 #[cycle(declarators)]
-#[tactic(auto, unfolding(crate::specs::TypeReading::parameters))]
+#[tactic(auto, unfolding(crate::specs::TypeClauses::parameters))]
 fn read_some_parameters(
     alloc: Global,
     reader: &mut Reader<'_>,
@@ -538,7 +534,7 @@ fn read_some_parameters(
 }
 
 #[cycle(declarators)]
-#[tactic(auto, unfolding(crate::specs::TypeReading::parameter))]
+#[tactic(auto, unfolding(crate::specs::TypeClauses::parameter))]
 fn read_parameter(
     alloc: Global,
     reader: &mut Reader<'_>,

@@ -1,17 +1,17 @@
 //! Tokens of types, as the reader takes them.
 ghost use Rattle.std.specs.Prelude.{◌<◌, ◌^◌, ◌≤◌, ◌+◌, IfOk, Some};
 ghost use Rattle.floyd_cparse_types.specs.Types as t;
-ghost use Rattle.floyd_grammar.specs.Parse.{one};
-ghost use Rattle.floyd_grammar.specs.Gives.{Gives};
+ghost use Rattle.floyd_grammar.specs.ParseClauses.{one};
+ghost use Rattle.floyd_grammar.specs.GivesClauses.{Gives};
 
 use crate::type_tokens::{
-    after_declarator, base_start, core_start, is_shadowed, may_precede, shadowing, suffix_start,
+    after_declarator, base_start, core_start, is_shadowed, may_precede, shadow_cause, suffix_start,
     tag,
 };
 use crate::values::{
     BaseStart, CoreStart, DeclaratorEnd, Declared, IntWords, SizeStart, SuffixStart, Tag,
 };
-use floyd_cparse_tokens::{LEFT_OUT, Reader, SHADOWED, TypeNames, UNEXPECTED, closing};
+use floyd_cparse_tokens::{LEFT_OUT, Reader, SHADOWED, TypeNames, UNEXPECTED, found_or};
 use floyd_grammar::Stop;
 use floyd_lex::{Keyword, Punctuator};
 use floyd_text::Place;
@@ -23,7 +23,7 @@ pub(crate) fn take_const(reader: &mut Reader<'_>, room: u32, count: u64) -> Resu
 {
     let sight = reader.peek()?;
     let place = sight.place_if(sight.is_word(Keyword::Const));
-    reader.take(sight.offered(room, count, place))
+    reader.take(sight.offer(room, count, place))
 }
 
 pub(crate) fn take_word(
@@ -37,7 +37,7 @@ pub(crate) fn take_word(
 {
     let sight = reader.peek()?;
     let more = words.with(&sight);
-    reader.take(sight.offered(room, count, more))
+    reader.take(sight.offer(room, count, more))
 }
 
 pub(crate) fn take_base_start(
@@ -55,7 +55,7 @@ pub(crate) fn take_base_start(
         return reader.take(Err(UNEXPECTED));
     }
     let start = base_start(alloc, &sight, types)?;
-    reader.take(sight.wanted(types, room, count, UNEXPECTED, start))
+    reader.take(sight.demand(types, room, count, UNEXPECTED, start))
 }
 
 pub(crate) fn take_tag(
@@ -70,7 +70,7 @@ pub(crate) fn take_tag(
 {
     let sight = reader.peek()?;
     let tag = tag(alloc, &sight)?;
-    reader.take(sight.wanted(types, room, count, UNEXPECTED, tag))
+    reader.take(sight.demand(types, room, count, UNEXPECTED, tag))
 }
 
 pub(crate) fn take_fields_open(
@@ -84,7 +84,7 @@ pub(crate) fn take_fields_open(
 {
     let sight = reader.peek()?;
     let place = sight.place_if(sight.is_mark(Punctuator::OpenBrace));
-    reader.take(sight.wanted(types, room, count, UNEXPECTED, place))
+    reader.take(sight.demand(types, room, count, UNEXPECTED, place))
 }
 
 pub fn take_comma(reader: &mut Reader<'_>) -> Result<Place, Stop>
@@ -92,7 +92,7 @@ pub fn take_comma(reader: &mut Reader<'_>) -> Result<Place, Stop>
 {
     let sight = reader.peek()?;
     let place = sight.place_if(sight.is_mark(Punctuator::Comma));
-    reader.take(closing(UNEXPECTED, place))
+    reader.take(found_or(UNEXPECTED, place))
 }
 
 pub(crate) fn take_field_end(
@@ -115,7 +115,7 @@ pub(crate) fn take_field_end(
         after_declarator(&sight, types, Declared::Field, room, end, special)
     };
     let place = sight.place_if(sight.is_mark(Punctuator::Semicolon));
-    reader.take(closing(cause, place))
+    reader.take(found_or(cause, place))
 }
 
 pub fn take_brace_end(reader: &mut Reader<'_>) -> Result<Place, Stop>
@@ -123,7 +123,7 @@ pub fn take_brace_end(reader: &mut Reader<'_>) -> Result<Place, Stop>
 {
     let sight = reader.peek()?;
     let place = sight.place_if(sight.is_mark(Punctuator::CloseBrace));
-    reader.take(closing(UNEXPECTED, place))
+    reader.take(found_or(UNEXPECTED, place))
 }
 
 pub(crate) fn take_star(reader: &mut Reader<'_>, room: u32, count: u64) -> Result<Place, Stop>
@@ -133,7 +133,7 @@ pub(crate) fn take_star(reader: &mut Reader<'_>, room: u32, count: u64) -> Resul
 {
     let sight = reader.peek()?;
     let place = sight.place_if(sight.is_mark(Punctuator::Star));
-    reader.take(sight.offered(room, count, place))
+    reader.take(sight.offer(room, count, place))
 }
 
 pub(crate) fn take_parameter_comma(
@@ -145,7 +145,7 @@ pub(crate) fn take_parameter_comma(
 {
     let sight = reader.peek()?;
     let place = sight.place_if(sight.is_mark(Punctuator::Comma));
-    reader.take(sight.offered(room, end.count as u64 + end.stars as u64, place))
+    reader.take(sight.offer(room, end.count as u64 + end.stars as u64, place))
 }
 
 pub(crate) fn take_parameters_end(
@@ -163,7 +163,7 @@ pub(crate) fn take_parameters_end(
         after_declarator(&sight, types, Declared::Parameter, room, end, UNEXPECTED)
     };
     let place = sight.place_if(sight.is_mark(Punctuator::CloseParen));
-    reader.take(closing(cause, place))
+    reader.take(found_or(cause, place))
 }
 
 pub(crate) fn take_no_parameters_end(reader: &mut Reader<'_>) -> Result<Place, Stop>
@@ -171,7 +171,7 @@ pub(crate) fn take_no_parameters_end(reader: &mut Reader<'_>) -> Result<Place, S
 {
     let sight = reader.peek()?;
     let place = sight.place_if(sight.is_mark(Punctuator::CloseParen));
-    reader.take(closing(UNEXPECTED, place))
+    reader.take(found_or(UNEXPECTED, place))
 }
 
 pub(crate) fn take_inner_end(
@@ -186,7 +186,7 @@ pub(crate) fn take_inner_end(
     let sight = reader.peek()?;
     let cause = after_declarator(&sight, types, declared, room, end, UNEXPECTED);
     let place = sight.place_if(sight.is_mark(Punctuator::CloseParen));
-    reader.take(closing(cause, place))
+    reader.take(found_or(cause, place))
 }
 
 pub(crate) fn take_size_end(
@@ -200,7 +200,7 @@ pub(crate) fn take_size_end(
     let sight = reader.peek()?;
     let cause = sight.blame(types, room, count as u64, UNEXPECTED);
     let place = sight.place_if(sight.is_mark(Punctuator::CloseBracket));
-    reader.take(closing(cause, place))
+    reader.take(found_or(cause, place))
 }
 
 pub(crate) fn take_size(
@@ -219,7 +219,7 @@ pub(crate) fn take_size(
         Some(literal) => Some(SizeStart::Size(literal)),
         None => None,
     };
-    reader.take(sight.wanted(types, room, count as u64, UNEXPECTED, size))
+    reader.take(sight.demand(types, room, count as u64, UNEXPECTED, size))
 }
 
 pub(crate) fn take_core(
@@ -228,26 +228,25 @@ pub(crate) fn take_core(
     types: &TypeNames,
     declared: Declared,
     room: u32,
-    count: u32,
-    stars: u32,
+    end: DeclaratorEnd,
 ) -> Result<CoreStart, Stop>
-    ensures { Gives result reader.new (one (t.core_token types.now declared room count stars) reader.old) }
+    ensures { Gives result reader.new (one (t.core_token types.now declared room end.count end.stars) reader.old) }
 {
     let sight = reader.peek()?;
-    let all = count as u64 + stars as u64;
-    if may_precede(&sight, stars) {
+    let all = end.count as u64 + end.stars as u64;
+    if may_precede(&sight, end.stars) {
         return reader.take(Err(UNEXPECTED));
     }
     if declared.is_named() {
-        let special = shadowing(&sight, types, declared);
+        let special = shadow_cause(&sight, types, declared);
         let start = core_start(alloc, &sight, types, declared)?;
-        return reader.take(sight.wanted(types, room, all, special, start));
+        return reader.take(sight.demand(types, room, all, special, start));
     }
     if is_shadowed(&sight, types, declared) {
         return reader.take(Err(sight.blame(types, room, all, SHADOWED)));
     }
     let start = core_start(alloc, &sight, types, declared)?;
-    reader.take(sight.offered(room, all, start))
+    reader.take(sight.offer(room, all, start))
 }
 
 pub(crate) fn take_suffix(

@@ -3,8 +3,8 @@ ghost use Rattle.std.specs.Prelude.{◌≡◌, ◌<◌, ◌≤◌, ◌+◌, ◌&
 ghost use Rattle.floyd_cparse_types.specs.Types as t;
 ghost use Rattle.floyd_lex.specs.declared.kinds.Punctuator.TheVariants as p;
 ghost use Rattle.floyd_cparse_tokens.specs.Tokens.{is_there, is_mark, is_literal_token};
-ghost use Rattle.floyd_cparse_types.specs.TypeReading as r;
-ghost use Rattle.floyd_grammar.specs.Parse.{leads};
+ghost use Rattle.floyd_cparse_types.specs.TypeClauses as r;
+ghost use Rattle.floyd_grammar.specs.ParseClauses.{leads};
 
 use crate::values::{
     BaseStart, CoreStart, DeclaratorEnd, Declared, IntWords, ReadDeclarator, SuffixStart, Tag,
@@ -203,8 +203,8 @@ fn begins_core(sight: &Sight<'_>, types: &TypeNames, declared: Declared) -> bool
         || is_shadowed(sight, types, declared)
 }
 
-pub(crate) fn shadowing(sight: &Sight<'_>, types: &TypeNames, declared: Declared) -> u8
-    ensures { result ≡ t.shadowing types.now declared sight.now }
+pub(crate) fn shadow_cause(sight: &Sight<'_>, types: &TypeNames, declared: Declared) -> u8
+    ensures { result ≡ t.shadow_cause types.now declared sight.now }
 {
     if is_shadowed(sight, types, declared) {
         SHADOWED
@@ -238,13 +238,13 @@ pub(crate) fn suffix_start(
 {
     let count = end.count as u64 + end.stars as u64;
     if opens_function(sight, types, end) {
-        return sight.offered(room, count, Some(SuffixStart::Function(sight.place())));
+        return sight.offer(room, count, Some(SuffixStart::Function(sight.place())));
     }
     if !sight.is_mark(Punctuator::OpenBracket) {
         return Err(UNEXPECTED);
     }
     if precedes_size(sight, declared) || sight.is_deep(room, count) {
-        sight.offered(room, count, Some(SuffixStart::Array(sight.place())))
+        sight.offer(room, count, Some(SuffixStart::Array(sight.place())))
     } else {
         Err(LEFT_OUT)
     }

@@ -3,8 +3,8 @@ use Rattle.std.proofs.Common.{◌≡◌, ℕ, zero, suc, ◌≤◌, Bool, true, 
 use Rattle.floyd_grammar.specs.declared.stop.Fault.{Fault}
 use Rattle.floyd_grammar.specs.Phrase.{Phrase}
 use Rattle.floyd_grammar.specs.Phrase as phrase
-use Rattle.floyd_grammar.specs.Parse.{Parser, Read, leads}
-use Rattle.floyd_grammar.specs.Parse as parse
+use Rattle.floyd_grammar.specs.ParseClauses.{Parser, Read, leads}
+use Rattle.floyd_grammar.specs.ParseClauses as parse
 use Rattle.floyd_grammar.specs.Refused.{IsCause}
 use Rattle.floyd_grammar.proofs.Exact.{Within, Halts, Exact, empty_front}
 

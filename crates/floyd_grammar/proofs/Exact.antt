@@ -4,8 +4,8 @@ use Rattle.std.proofs.Common.{◌≡◌, ℕ, zero, suc, ◌≤◌, Bool, true, 
 use Rattle.floyd_grammar.specs.declared.stop.Fault.{Fault}
 use Rattle.floyd_grammar.specs.Phrase.{Phrase}
 use Rattle.floyd_grammar.specs.Phrase as phrase
-use Rattle.floyd_grammar.specs.Parse.{Parser, Read, taken, bind, is_taken, is_blamed}
-use Rattle.floyd_grammar.specs.Parse as parse
+use Rattle.floyd_grammar.specs.ParseClauses.{Parser, Read, taken, bind, is_taken, is_blamed}
+use Rattle.floyd_grammar.specs.ParseClauses as parse
 use Rattle.floyd_grammar.specs.Refused.{IsGreatest, IsCause}
 
 -- it went at least so far that at most n tokens are left

@@ -2,8 +2,8 @@
 use Rattle.std.proofs.Common.{◌≡◌, ℕ, Bool, true, false, List, [], ◌∷◌, ◌++◌, Result, refl, sym, subst}
 use Rattle.floyd_grammar.specs.Phrase.{Phrase}
 use Rattle.floyd_grammar.specs.Phrase as phrase
-use Rattle.floyd_grammar.specs.Parse.{Parser, is_taken, is_blamed, is_meant}
-use Rattle.floyd_grammar.specs.Parse as parse
+use Rattle.floyd_grammar.specs.ParseClauses.{Parser, is_taken, is_blamed, is_meant}
+use Rattle.floyd_grammar.specs.ParseClauses as parse
 use Rattle.floyd_grammar.proofs.Exact.{Exact, token_solid, nothing}
 use Rattle.floyd_grammar.proofs.Seq.{seq, seq_open, seq_solid, token_then, made}
 use Rattle.floyd_grammar.proofs.Either.{or_left, or_right}

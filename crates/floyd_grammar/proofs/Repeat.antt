@@ -3,8 +3,8 @@
 use Rattle.std.proofs.Common.{◌≡◌, ℕ, zero, suc, ◌<◌, ◌≤◌, Bool, true, false, inl, inr, List, [], ◌∷◌, ◌++◌, length, refl, sym, ◌∙◌, ap, subst, append_assoc, append-nil, length-append, le_refl, true≢false, arith, ◌||◌}
 use Rattle.floyd_grammar.specs.Phrase.{Phrase, Folded, none, then}
 use Rattle.floyd_grammar.specs.Phrase as phrase
-use Rattle.floyd_grammar.specs.Parse.{Parser, Read, fold_at}
-use Rattle.floyd_grammar.specs.Parse as parse
+use Rattle.floyd_grammar.specs.ParseClauses.{Parser, Read, fold_at}
+use Rattle.floyd_grammar.specs.ParseClauses as parse
 use Rattle.floyd_grammar.specs.Refused.{IsCause}
 use Rattle.floyd_grammar.proofs.Exact.{Exact, nil_left, nil_right, nothing, empty_front}
 use Rattle.floyd_grammar.proofs.Wider.{wider}

@@ -6,8 +6,8 @@ use Rattle.std.proofs.lemmas.List.{append_cancel_right}
 use Rattle.floyd_grammar.specs.declared.stop.Fault.{Fault}
 use Rattle.floyd_grammar.specs.Phrase.{Phrase}
 use Rattle.floyd_grammar.specs.Phrase as phrase
-use Rattle.floyd_grammar.specs.Parse.{Parser, Read, bind, is_taken, is_blamed}
-use Rattle.floyd_grammar.specs.Parse as parse
+use Rattle.floyd_grammar.specs.ParseClauses.{Parser, Read, bind, is_taken, is_blamed}
+use Rattle.floyd_grammar.specs.ParseClauses as parse
 use Rattle.floyd_grammar.specs.Refused.{IsGreatest, IsCause}
 use Rattle.floyd_grammar.proofs.Exact.{Within, Halts, Exact, nil_left, nil_right, same_value, same_rest, same_fault, answer≢fault, no_cause, shrinks, empty_front, token, token_solid, nothing}
 

@@ -2,7 +2,7 @@
 use Rattle.std.proofs.Common.{◌≡◌, ℕ, zero, suc, ◌<◌, ◌≤◌, Bool, true, false, List, [], ◌∷◌, ◌++◌, length, Ok, Err, refl, sym, ◌∙◌, ap, length-append, le_refl, true≢false, arith}
 use Rattle.floyd_grammar.specs.declared.stop.Fault.{Fault}
 use Rattle.floyd_grammar.specs.Phrase.{Phrase}
-use Rattle.floyd_grammar.specs.Parse.{Parser, Read, leads, fold_at, folded}
+use Rattle.floyd_grammar.specs.ParseClauses.{Parser, Read, leads, fold_at, folded}
 use Rattle.floyd_grammar.proofs.Exact.{Exact}
 
 pub record Turning {T A B : Type 0} (first : A → T → Bool) (join : A → B → A) (p : A → Parser T B) (x : A) (ts : List T) (total : Read T A) : Type 0 where

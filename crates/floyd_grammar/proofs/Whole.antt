@@ -5,7 +5,7 @@ use Rattle.std.proofs.Math.Seq.{take-append_seam, drop-append_seam, take-append-
 use Rattle.std.proofs.lemmas.List.{take-append-le}
 use Rattle.floyd_grammar.specs.declared.stop.Fault.{Fault}
 use Rattle.floyd_grammar.specs.Phrase.{Phrase}
-use Rattle.floyd_grammar.specs.Parse.{Parser, Read, whole, ended, ended_read}
+use Rattle.floyd_grammar.specs.ParseClauses.{Parser, Read, whole, ended, ended_read}
 use Rattle.floyd_grammar.specs.Refused.{IsGreatest, IsCause, IsRefused}
 use Rattle.floyd_grammar.proofs.Exact.{Within, Exact, no_cause, same_fault}
 use Rattle.floyd_grammar.proofs.Either.{past}

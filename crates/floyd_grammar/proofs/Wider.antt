@@ -1,7 +1,7 @@
 -- The sets of tokens by which a reader is exact may be larger than need be.
 use Rattle.std.proofs.Common.{◌≡◌, Bool, true, false, List, [], ◌∷◌, true≢false, refl, sym, ◌∙◌}
 use Rattle.floyd_grammar.specs.Phrase.{Phrase}
-use Rattle.floyd_grammar.specs.Parse.{Parser}
+use Rattle.floyd_grammar.specs.ParseClauses.{Parser}
 use Rattle.floyd_grammar.proofs.Exact.{Halts, Exact}
 
 -- what is not in the larger set is not in the smaller

@@ -1,4 +1,4 @@
 pub mod Phrase
-pub mod Parse
+pub mod ParseClauses
 pub mod Refused
-pub mod Gives
+pub mod GivesClauses

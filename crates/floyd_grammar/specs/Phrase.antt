@@ -1,6 +1,6 @@
 -- Phrases: parts of a grammar over lists of tokens. A phrase says at once which tokens read as which value, which tokens
 -- begin what may still read, and for what cause a token is refused where another is wanted.
-use Rattle.std.specs.Prelude.{◌≡◌, ℕ, zero, suc, ◌⊎◌, List, [], ◌∷◌, ◌++◌, Option, Some, None, Result, Ok, Err}
+use Rattle.std.specs.Prelude.{◌≡◌, ℕ, ◌⊎◌, List, [], ◌∷◌, ◌++◌, Option, Some, None, Result, Ok, Err}
 
 pub record Phrase (T A : Type 0) : Type 1 where
   -- the tokens read as the value

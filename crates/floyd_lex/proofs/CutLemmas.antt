@@ -11,7 +11,7 @@ use Rattle.floyd_lex.specs.Cuts.{Cuts, Outcome, ended, stopped, with_first, is_l
 use Rattle.floyd_text.specs.declared.refusal.Halt.{Halt}
 use Rattle.floyd_text.specs.declared.refusal.Halt.TheVariants.{Refused}
 use Rattle.floyd_text.specs.Place.{place_at}
-use Rattle.floyd_lex.specs.Lines.{feeds_of, place_by}
+use Rattle.floyd_lex.specs.LinesClauses.{feeds_of, place_by}
 use Rattle.floyd_lex.specs.Token.{Piece, TokenList, placed}
 use Rattle.floyd_lex.proofs.MoveLemmas.{Moves, Steps, steps_by, front_moves}
 use Rattle.floyd_lex.proofs.PlaceLemmas.{BeginWithin, same_places}

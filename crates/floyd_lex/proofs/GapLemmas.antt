@@ -25,7 +25,7 @@ use Rattle.floyd_lex.specs.Front.{front, token_front, c_front, other_front, word
 use Rattle.floyd_lex.specs.Laws.{Suits, HasTypeOf, IsGap, IsOnOneLine, EndsComment, nothing, white, comment as gap_comment, line_comment as gap_line, marker}
 use Rattle.floyd_lex.specs.Marks.{mark_in, mark_or, c_mark, c_three, c_two, c_one, no_token, other_mark, shared_two, shared_one, own_two, own_one}
 use Rattle.floyd_lex.specs.Numbers.{c_number, literal_of, literal_or_bad, number_in, greatest}
-use Rattle.floyd_lex.specs.Quotes.{constant, constant_of, constant_or_bad, escaped, is_plain, goes_on, string, string_len, string_or_bad}
+use Rattle.floyd_lex.specs.Quotes.{constant, constant_of, constant_or_bad, escape_of, is_plain, goes_on, string, string_len, string_or_bad}
 use Rattle.floyd_lex.specs.Unicode.{char_at, starts_name, continues_word, name_len, plain_number}
 use Rattle.floyd_lex.proofs.MoveLemmas.{run_within}
 use Rattle.floyd_lex.specs.Keywords.{keyword_of}
@@ -92,7 +92,7 @@ either_small : (b : Bool) (x y : Option ℕ) → IfSome x (λ c. c ≤ 92) → I
 either_small true x y f g = f
 either_small false x y f g = g
 
-escaped_small : (b : ℕ) → IfSome (escaped b) (λ c. c ≤ 92)
+escaped_small : (b : ℕ) → IfSome (escape_of b) (λ c. c ≤ 92)
 escaped_small b =
     either_small (eqb b 110) (Some 10) _ (omega arith) (either_small (eqb b 116) (Some 9) _ (omega arith) (either_small (eqb b 114) (Some 13) _ (omega arith)
     (either_small (eqb b 48) (Some 0) _ (omega arith) (either_small (eqb b 92) (Some 92) _ (omega arith) (either_small (eqb b 39) (Some 39) _ (omega arith)
@@ -107,10 +107,10 @@ mapped_small None h = tt
 
 constant_small : (bytes : List ℕ) → IsSmall (constant_of bytes)
 constant_small bytes =
-    elim (is_plain (get_or bytes 1 0) && eqb (get_or bytes 2 0) 39) as (λ v. (is_plain (get_or bytes 1 0) && eqb (get_or bytes 2 0) 39) ≡ v → IsSmall (cond v (Some (get_or bytes 1 0, 3)) (cond (eqb (get_or bytes 1 0) 92 && eqb (get_or bytes 3 0) 39) (option_map (λ c. (c, 4)) (escaped (get_or bytes 2 0))) None))) [
+    elim (is_plain (get_or bytes 1 0) && eqb (get_or bytes 2 0) 39) as (λ v. (is_plain (get_or bytes 1 0) && eqb (get_or bytes 2 0) 39) ≡ v → IsSmall (cond v (Some (get_or bytes 1 0, 3)) (cond (eqb (get_or bytes 1 0) 92 && eqb (get_or bytes 3 0) 39) (option_map (λ c. (c, 4)) (escape_of (get_or bytes 2 0))) None))) [
       | true ↦ λ e. plain_small (get_or bytes 1 0) (and_parts (is_plain (get_or bytes 1 0)) (eqb (get_or bytes 2 0) 39) e).0
-      | false ↦ λ _. elim (eqb (get_or bytes 1 0) 92 && eqb (get_or bytes 3 0) 39) as (λ v. IsSmall (cond v (option_map (λ c. (c, 4)) (escaped (get_or bytes 2 0))) None)) [
-        | true ↦ mapped_small (escaped (get_or bytes 2 0)) (escaped_small (get_or bytes 2 0))
+      | false ↦ λ _. elim (eqb (get_or bytes 1 0) 92 && eqb (get_or bytes 3 0) 39) as (λ v. IsSmall (cond v (option_map (λ c. (c, 4)) (escape_of (get_or bytes 2 0))) None)) [
+        | true ↦ mapped_small (escape_of (get_or bytes 2 0)) (escaped_small (get_or bytes 2 0))
         | false ↦ tt
       ]
     ] refl

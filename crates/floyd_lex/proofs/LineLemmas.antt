@@ -4,7 +4,7 @@ use Rattle.std.proofs.lemmas.List.{take_all}
 use Rattle.std.proofs.lemmas.List.Sums.{count_by_more_yes, count_by_more_no}
 use Rattle.std.specs.List.Sorted.{IsStrictlyIncreasing}
 use Rattle.floyd_text.specs.Place.{is_feed}
-use Rattle.floyd_lex.specs.Lines.{feeds_from, count_below}
+use Rattle.floyd_lex.specs.LinesClauses.{feeds_from, count_below}
 
 -- numbers that rise are not below the earlier ones
 pub climbs : (xs : List ℕ) → IsStrictlyIncreasing xs → (i d : ℕ) → i + d < length xs → get_or xs i 0 ≤ get_or xs (i + d) 0

@@ -27,7 +27,7 @@ use Rattle.floyd_lex.specs.Classes.{in_class, run, begins, is_letter}
 use Rattle.floyd_lex.specs.Front.{front, token_front, c_front, other_front, word, comment, comment_of, comment_len, comment_or_bad, line_comment, line_is_blank, is_marker}
 use Rattle.floyd_lex.specs.Marks.{Mark, mark_in, mark_or, c_mark, c_three, c_two, c_one, other_mark, shared_two, shared_one, own_two, own_one}
 use Rattle.floyd_lex.specs.Numbers.{c_number, literal_of, literal_or_bad, number_in}
-use Rattle.floyd_lex.specs.Quotes.{constant, constant_of, constant_or_bad, escaped, is_plain, string, string_len, string_or_bad}
+use Rattle.floyd_lex.specs.Quotes.{constant, constant_of, constant_or_bad, escape_of, is_plain, string, string_len, string_or_bad}
 use Rattle.floyd_lex.specs.Unicode.{char_at, char_of, starts_name, continues_name, continues_word, width, name_step, name_len, name_len_after, plain_number}
 use Rattle.floyd_lex.proofs.NameLemmas.{name_len_step}
 
@@ -138,10 +138,10 @@ escape_within len None h = tt
 pub constant_within : (bytes : List ℕ) → IfSome (constant_of bytes) (λ c. (0 < c.1) × (c.1 ≤ length bytes))
 constant_within bytes =
     let W : Option (ℕ × ℕ) → Type 0 = λ o. IfSome o (λ c. (0 < c.1) × (c.1 ≤ length bytes)) in
-    elim (is_plain (get_or bytes 1 0) && eqb (get_or bytes 2 0) 39) as (λ v. (is_plain (get_or bytes 1 0) && eqb (get_or bytes 2 0) 39) ≡ v → W (cond v (Some (get_or bytes 1 0, 3)) (cond (eqb (get_or bytes 1 0) 92 && eqb (get_or bytes 3 0) 39) (option_map (λ c. (c, 4)) (escaped (get_or bytes 2 0))) None))) [
+    elim (is_plain (get_or bytes 1 0) && eqb (get_or bytes 2 0) 39) as (λ v. (is_plain (get_or bytes 1 0) && eqb (get_or bytes 2 0) 39) ≡ v → W (cond v (Some (get_or bytes 1 0, 3)) (cond (eqb (get_or bytes 1 0) 92 && eqb (get_or bytes 3 0) 39) (option_map (λ c. (c, 4)) (escape_of (get_or bytes 2 0))) None))) [
       | true ↦ λ e. (lit< tt, omega (arith, byte_within bytes 2 39 (grind (arith, (and_parts (is_plain (get_or bytes 1 0)) (eqb (get_or bytes 2 0) 39) e).1)) (lit< tt)))
-      | false ↦ λ _. elim (eqb (get_or bytes 1 0) 92 && eqb (get_or bytes 3 0) 39) as (λ v. (eqb (get_or bytes 1 0) 92 && eqb (get_or bytes 3 0) 39) ≡ v → W (cond v (option_map (λ c. (c, 4)) (escaped (get_or bytes 2 0))) None)) [
-        | true ↦ λ e. escape_within (length bytes) (escaped (get_or bytes 2 0)) (omega (arith, byte_within bytes 3 39 (grind (arith, (and_parts (eqb (get_or bytes 1 0) 92) (eqb (get_or bytes 3 0) 39) e).1)) (lit< tt)))
+      | false ↦ λ _. elim (eqb (get_or bytes 1 0) 92 && eqb (get_or bytes 3 0) 39) as (λ v. (eqb (get_or bytes 1 0) 92 && eqb (get_or bytes 3 0) 39) ≡ v → W (cond v (option_map (λ c. (c, 4)) (escape_of (get_or bytes 2 0))) None)) [
+        | true ↦ λ e. escape_within (length bytes) (escape_of (get_or bytes 2 0)) (omega (arith, byte_within bytes 3 39 (grind (arith, (and_parts (eqb (get_or bytes 1 0) 92) (eqb (get_or bytes 3 0) 39) e).1)) (lit< tt)))
         | false ↦ λ _. tt
       ] refl
     ] refl

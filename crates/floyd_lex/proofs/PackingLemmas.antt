@@ -5,7 +5,7 @@ use Rattle.floyd_lex.specs.declared.kinds.TokenKind.TheVariants as k
 use Rattle.floyd_lex.specs.declared.pieces.Form.{Form}
 use Rattle.floyd_lex.specs.declared.pieces.Form.TheVariants.{Name, Keyword, Punctuator, Short, Long, StringLiteral}
 use Rattle.floyd_lex.specs.declared.pieces.Packed.{Packed}
-use Rattle.floyd_lex.specs.Packing.{kind_of, piece_of, pieces_of, IsWithin, AreWithin, Grows}
+use Rattle.floyd_lex.specs.PackingClauses.{kind_of, piece_of, pieces_of, IsWithin, AreWithin, Grows}
 
 module _ (long more : List ℕ) where
   kind_of-more : (f : Form) (n : ℕ) → IsWithin long f n → kind_of (long ++ more) f n ≡ kind_of long f n

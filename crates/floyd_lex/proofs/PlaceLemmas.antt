@@ -6,7 +6,7 @@ use Rattle.std.proofs.lemmas.List.Sums.{suffix_len-take_yes, suffix_len-take_no}
 use Rattle.std.proofs.lemmas.List.Recursion.{is_count_by}
 use Rattle.std.proofs.Math.Seq.{get_or-append_seam, get_or-append_right}
 use Rattle.floyd_text.specs.Place.{is_feed, is_other, place_at, line_of}
-use Rattle.floyd_lex.specs.Lines.{feeds_from, feeds_of, count_below, line_start, place_by}
+use Rattle.floyd_lex.specs.LinesClauses.{feeds_from, feeds_of, count_below, line_start, place_by}
 use Rattle.floyd_lex.specs.Token.{Piece, placed}
 use Rattle.floyd_lex.proofs.LineLemmas.{count_below_is}
 

@@ -1,9 +1,11 @@
 -- How a file is cut into tokens, and the first refusal.
 use Rattle.std.specs.Prelude.{◌≡◌, ℕ, zero, suc, ◌+◌, Bool, true, false, nat_lt, List, [], ◌∷◌, map, take, drop, Option, Some, None, Result, Ok, Err}
+use Rattle.floyd_text.specs.declared.code.Code.{Code}
+use Rattle.floyd_text.specs.declared.code.Code.TheVariants as c
 use Rattle.floyd_text.specs.declared.refusal.Halt.{Halt}
 use Rattle.floyd_text.specs.declared.refusal.Halt.TheVariants.{Refused, Memory}
 use Rattle.floyd_text.specs.declared.refusal.Refusal.{Refusal}
-use Rattle.floyd_text.specs.declared.refusal.Rule.TheVariants.{Reading}
+use Rattle.floyd_text.specs.Refusals.{refusal_at}
 use Rattle.floyd_text.specs.declared.refusal.Shown.TheVariants.{Nothing}
 use Rattle.floyd_text.specs.Place.{place_at}
 use Rattle.floyd_lex.specs.declared.kinds.FileKind.{FileKind}
@@ -47,15 +49,15 @@ pub data Cuts (kind : FileKind) (bytes : List ℕ) : ℕ → ℕ → Outcome →
 abbrev pub token_limit : ℕ
 token_limit = 1000000
 
-abbrev pub code_of : Flaw → ℕ
-code_of BadByte = 201
-code_of OpenComment = 202
-code_of BadNumber = 203
-code_of TooManyTokens = 204
-code_of LongName = 205
+abbrev pub code_of : Flaw → Code
+code_of BadByte = c.BadByte
+code_of OpenComment = c.OpenComment
+code_of BadNumber = c.BadNumber
+code_of TooManyTokens = c.TooManyTokens
+code_of LongName = c.LongName
 
 abbrev pub refusal_of : ℕ → List ℕ → Flaw → ℕ → Refusal
-refusal_of file bytes flaw at = record { code = code_of flaw; rule = Reading; place = place_at file bytes at; goal = 0; shown = Nothing }
+refusal_of file bytes flaw at = refusal_at (code_of flaw) (place_at file bytes at) Nothing
 
 abbrev pub answer_at : ℕ → List ℕ → List Piece → Option (Flaw × ℕ) → Result TokenList Refusal
 answer_at file bytes pieces None = Ok (record { file = file; items = map (placed (place_at file bytes)) pieces })

@@ -3,10 +3,10 @@ pub mod Cuts
 pub mod Front
 pub mod Keywords
 pub mod Laws
-pub mod Lines
+pub mod LinesClauses
 pub mod Marks
 pub mod Numbers
-pub mod Packing
+pub mod PackingClauses
 pub mod Quotes
 pub mod Token
 pub mod Unicode

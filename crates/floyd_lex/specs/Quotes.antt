@@ -9,8 +9,8 @@ use Rattle.floyd_lex.specs.declared.lead.Lead.TheVariants.{Piece, Bad}
 use Rattle.floyd_lex.specs.Classes.{is_word}
 
 -- the character that a letter means behind a `\`
-abbrev pub escaped : ℕ → Option ℕ
-escaped b =
+abbrev pub escape_of : ℕ → Option ℕ
+escape_of b =
     if b == 110 then Some 10
     else if b == 116 then Some 9
     else if b == 114 then Some 13
@@ -28,7 +28,7 @@ is_plain b = is_in_range 32 126 b && not (b == 39) && not (b == 92)
 abbrev pub constant_of : List ℕ → Option (ℕ × ℕ)
 constant_of bytes =
     if is_plain (slice_index bytes 1) && slice_index bytes 2 == 39 then Some (slice_index bytes 1, 3)
-    else if slice_index bytes 1 == 92 && slice_index bytes 3 == 39 then option_map (λ c. (c, 4)) (escaped (slice_index bytes 2))
+    else if slice_index bytes 1 == 92 && slice_index bytes 3 == 39 then option_map (λ c. (c, 4)) (escape_of (slice_index bytes 2))
     else None
 
 -- a literal goes on where a letter, a digit, `_` or `.` follows

@@ -8,7 +8,7 @@ use crate::lead::{Flaw, Lead};
 use crate::lines::Lines;
 use crate::list::Tokens;
 use crate::pieces::Pieces;
-use floyd_text::{Halt, Refusal, Rule, Shown, place_of};
+use floyd_text::{Halt, Refusal, Shown, place_of};
 use std::alloc::Global;
 
 /// The greatest number of tokens of a file.
@@ -36,15 +36,15 @@ pub fn tokens(alloc: Global, kind: FileKind, file: u32, bytes: &[u8]) -> Result<
             Lead::Skip(n) => at += n,
             Lead::Piece(token, n) => {
                 if pieces.len() == TOKEN_LIMIT {
-                    return Err(refused(Flaw::TooManyTokens, file, bytes, at));
+                    return Err(halt_at(Flaw::TooManyTokens, file, bytes, at));
                 }
                 if is_long_name(token, n) {
-                    return Err(refused(Flaw::LongName, file, bytes, at));
+                    return Err(halt_at(Flaw::LongName, file, bytes, at));
                 }
                 pieces.push(token, at as u32, (at + n) as u32)?;
                 at += n;
             }
-            Lead::Bad(flaw, n) => return Err(refused(flaw, file, bytes, at + n)),
+            Lead::Bad(flaw, n) => return Err(halt_at(flaw, file, bytes, at + n)),
         }
     }
     Ok(Tokens::new(file, pieces, Lines::of(alloc, bytes)?))
@@ -57,16 +57,11 @@ fn is_long_name(token: TokenKind, n: usize) -> bool
     matches!(token, TokenKind::Name) && 255 < n
 }
 
-/// The refusal at this byte.
-fn refused(flaw: Flaw, file: u32, bytes: &[u8], at: usize) -> Halt
+/// The refusal of a flaw at this byte.
+fn halt_at(flaw: Flaw, file: u32, bytes: &[u8], at: usize) -> Halt
     requires { at ≤ length bytes.now }
     ensures { result ≡ Halt.Refused (specs.refusal_of file bytes.now flaw at) }
 {
-    Halt::Refused(Refusal {
-        code: flaw.code(),
-        rule: Rule::Reading,
-        place: place_of(file, bytes, at),
-        goal: 0,
-        shown: Shown::Nothing,
-    })
+    let place = place_of(file, bytes, at);
+    Halt::Refused(Refusal::at(flaw.code(), place, Shown::Nothing))
 }

@@ -2,6 +2,7 @@ ghost use Rattle.std.specs.Prelude.{◌≡◌};
 ghost use Rattle.floyd_lex.specs.Cuts.{code_of};
 
 use crate::kinds::TokenKind;
+use floyd_text::Code;
 
 /// Why a file is not cut into tokens.
 #[derive(Clone, Copy)]
@@ -19,15 +20,16 @@ pub enum Flaw {
 }
 
 impl Flaw {
-    pub fn code(self) -> u16
+    /// The code of its refusal.
+    pub fn code(self) -> Code
         ensures { result ≡ code_of self }
     {
         match self {
-            Flaw::BadByte => 201,
-            Flaw::OpenComment => 202,
-            Flaw::BadNumber => 203,
-            Flaw::TooManyTokens => 204,
-            Flaw::LongName => 205,
+            Flaw::BadByte => Code::BadByte,
+            Flaw::OpenComment => Code::OpenComment,
+            Flaw::BadNumber => Code::BadNumber,
+            Flaw::TooManyTokens => Code::TooManyTokens,
+            Flaw::LongName => Code::LongName,
         }
     }
 }

@@ -1,15 +1,21 @@
 ghost use Rattle.std.specs.Prelude.{◌≡◌, ◌+◌, ◌<◌, ◌^◌, min, length, IfOk};
 ghost use Rattle.std.specs.List.Sorted.{IsStrictlyIncreasing};
-ghost use Rattle.floyd_lex.specs.Lines.{feeds_of, place_by, count_below};
+ghost use Rattle.floyd_lex.specs.LinesClauses.{feeds_of, place_by, count_below};
 
 use floyd_text::Place;
 use std::alloc::{AllocError, Global};
 use std::marker::Model;
 
 /// The offsets of the line feeds of a file, in order.
-#[derive(Drop)]
 pub struct Lines {
     feeds: Vec<u32>,
+}
+
+impl Drop for Lines {
+    fn drop(self) {
+        let Lines { feeds } = self;
+        drop(feeds);
+    }
 }
 
 impl Model for Lines {
@@ -51,8 +57,8 @@ impl Lines {
         };
         Place {
             file,
-            line: capped(before as u64),
-            column: capped((start as u64).saturating_sub(line_start)),
+            line: number_from_one(before as u64),
+            column: number_from_one((start as u64).saturating_sub(line_start)),
         }
     }
 }
@@ -76,7 +82,7 @@ fn count_before(feeds: &[u32], start: u32) -> usize
 }
 
 /// One more, or the greatest number there is.
-fn capped(n: u64) -> u32
+fn number_from_one(n: u64) -> u32
     ensures { result ≡ min (n + 1) 4294967295 }
 {
     if n < 4294967295 {

@@ -1,5 +1,5 @@
 ghost use Rattle.std.specs.Prelude.{◌≡◌, ◌<◌, ◌==◌, length, map, slice_get, option_map, Some};
-ghost use Rattle.floyd_lex.specs.Lines.{place_by};
+ghost use Rattle.floyd_lex.specs.LinesClauses.{place_by};
 ghost use Rattle.floyd_lex.specs.Token.{text_of, placed};
 
 use crate::kinds::TokenKind;
@@ -10,11 +10,22 @@ use std::marker::Model;
 
 /// The tokens of a file, in order, with the file's number. Contracts see the list of what each token is, its span and
 /// its place; its text stands in the file's bytes, which are not kept here.
-#[derive(Drop)]
 pub struct Tokens {
     file: u32,
     pieces: Pieces,
     lines: Lines,
+}
+
+impl Drop for Tokens {
+    fn drop(self) {
+        let Tokens {
+            file: _,
+            pieces,
+            lines,
+        } = self;
+        drop(pieces);
+        drop(lines);
+    }
 }
 
 impl Model for Tokens {
@@ -24,7 +35,7 @@ impl Model for Tokens {
     ghost Value = { TokenList };
 
     ghost use Rattle.floyd_lex.specs.Token.{placed};
-    ghost use Rattle.floyd_lex.specs.Lines.{place_by};
+    ghost use Rattle.floyd_lex.specs.LinesClauses.{place_by};
 
     ghost view = { λ t. record { file = t.file; items = map (placed (place_by t.file t.lines)) t.pieces } };
 }

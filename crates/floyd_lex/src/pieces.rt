@@ -1,7 +1,7 @@
 ghost use Rattle.std.specs.Prelude.{◌≡◌, ◌<◌, ◌≤◌, ◌^◌, [], ◌∷◌, ◌++◌, length, slice_get, option_map, IfOk, OnOk, OnErr, Some};
 ghost use Rattle.floyd_lex.specs.Token.{Piece};
 ghost use Rattle.floyd_lex.specs.declared.pieces.Packed.{Packed};
-ghost use Rattle.floyd_lex.specs.Packing.{kind_of, IsWithin, Grows};
+ghost use Rattle.floyd_lex.specs.PackingClauses.{kind_of, IsWithin, Grows};
 
 use crate::kinds::{Keyword, LiteralType, Punctuator, TokenKind};
 use std::alloc::{AllocError, Global};
@@ -31,10 +31,17 @@ struct Packed {
 const _: () = prove!(size_of::<Packed>() == 24);
 
 /// Tokens with their spans, in order, in 24 bytes each.
-#[derive(Drop)]
 pub struct Pieces {
     packed: Vec<Packed>,
     long: Vec<u128>,
+}
+
+impl Drop for Pieces {
+    fn drop(self) {
+        let Pieces { packed, long } = self;
+        drop(packed);
+        drop(long);
+    }
 }
 
 impl Model for Pieces {
@@ -43,7 +50,7 @@ impl Model for Pieces {
 
     ghost Value = { List Piece };
 
-    ghost use Rattle.floyd_lex.specs.Packing.{pieces_of, AreWithin};
+    ghost use Rattle.floyd_lex.specs.PackingClauses.{pieces_of, AreWithin};
 
     ghost view = { λ p. pieces_of p.long.items p.packed.items };
 
@@ -88,7 +95,7 @@ impl Pieces {
         let Some(p) = self.packed.get(at) else {
             return None;
         };
-        Some(unpacked(self.long.as_slice(), p))
+        Some(unpack(self.long.as_slice(), p))
     }
 
     /// The span of the token at `at`.
@@ -121,7 +128,7 @@ fn form_of(long: &mut Vec<u128>, kind: TokenKind) -> Result<(Form, u64), AllocEr
 }
 
 /// What the token is, where the long values are given.
-fn unpacked(long: &[u128], p: &Packed) -> TokenKind
+fn unpack(long: &[u128], p: &Packed) -> TokenKind
     ensures { result ≡ kind_of long.now p.now.form p.now.value }
 {
     match p.form {

@@ -28,7 +28,7 @@ fn constant_of(bytes: &[u8]) -> Option<(u8, usize)>
         return Some((second, 3));
     }
     if second == b'\\' && byte_at(bytes, 3) == b'\'' {
-        return match escaped(third) {
+        return match escape_of(third) {
             Some(c) => Some((c, 4)),
             None => None,
         };
@@ -43,8 +43,8 @@ fn is_plain(b: u8) -> bool
 }
 
 /// The character that a letter means behind a `\`.
-fn escaped(b: u8) -> Option<u8>
-    ensures { result ≡ specs.escaped b }
+fn escape_of(b: u8) -> Option<u8>
+    ensures { result ≡ specs.escape_of b }
 {
     match b {
         b'n' => Some(b'\n'),

@@ -1,6 +1,6 @@
 use Rattle.std.proofs.Common.{sym, ◌∙◌}
 use Rattle.floyd_cparse.specs.Units.{first_value}
-use Rattle.floyd_cparse.specs.UnitReading.{inits, value_list}
+use Rattle.floyd_cparse.specs.UnitClauses.{inits, value_list}
 use Rattle.floyd_cparse_tokens.proofs.ReadLemmas.{begun_behind, gives_next}
 use Rattle.floyd_cparse.proofs.UnitShrinks.{next_value_eats}
 use Rattle.floyd_cparse.proofs.read_initialisers.+initialisers.Goals as goal

@@ -1,7 +1,7 @@
 use Rattle.std.proofs.Common.{◌+◌, ◌*◌, length}
 use Rattle.floyd_grammar.proofs.Turns.{Turning}
 use Rattle.floyd_cparse.specs.Units.{is_separator, plus_value}
-use Rattle.floyd_cparse.specs.UnitReading.{inits, value_list, next_value}
+use Rattle.floyd_cparse.specs.UnitClauses.{inits, value_list, next_value}
 use Rattle.floyd_cparse.proofs.read_initialisers.+initialisers.Given as goal
 
 abbrev pub decreases-read_init : goal.decreases-read_init

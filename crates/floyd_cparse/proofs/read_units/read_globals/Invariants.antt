@@ -3,7 +3,7 @@ use Rattle.floyd_lex.specs.declared.kinds.Punctuator.TheVariants as p
 use Rattle.floyd_grammar.proofs.Turns.{Turning}
 use Rattle.floyd_cparse_tokens.specs.Tokens.{is_mark}
 use Rattle.floyd_cparse.specs.Units.{plus_global}
-use Rattle.floyd_cparse.specs.UnitReading.{globals, next_global}
+use Rattle.floyd_cparse.specs.UnitClauses.{globals, next_global}
 use Rattle.floyd_cparse.proofs.read_units.read_globals.Given as goal
 
 abbrev pub invariant-each : goal.invariant-each

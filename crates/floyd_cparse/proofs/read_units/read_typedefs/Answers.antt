@@ -1,8 +1,8 @@
 use Rattle.std.proofs.Common.{sym, ◌∙◌, suc}
 use Rattle.floyd_cparse_types.specs.declared.values.Declared.TheVariants as of
-use Rattle.floyd_cparse_types.specs.TypeReading.{within}
+use Rattle.floyd_cparse_types.specs.TypeClauses.{within}
 use Rattle.floyd_cparse.specs.Units.{limit, first_typedef}
-use Rattle.floyd_cparse.specs.UnitReading.{typedefs}
+use Rattle.floyd_cparse.specs.UnitClauses.{typedefs}
 use Rattle.floyd_cparse_tokens.proofs.ReadLemmas.{begun_behind, gives_next}
 use Rattle.floyd_cparse.proofs.UnitShrinks.{next_typedef_eats}
 use Rattle.floyd_cparse.proofs.read_units.read_typedefs.Goals as goal

@@ -3,7 +3,7 @@ use Rattle.floyd_lex.specs.declared.kinds.Punctuator.TheVariants as p
 use Rattle.floyd_grammar.proofs.Turns.{Turning}
 use Rattle.floyd_cparse_tokens.specs.Tokens.{is_mark}
 use Rattle.floyd_cparse.specs.Units.{Typedefs, plus_typedef}
-use Rattle.floyd_cparse.specs.UnitReading.{typedefs, next_typedef}
+use Rattle.floyd_cparse.specs.UnitClauses.{typedefs, next_typedef}
 use Rattle.floyd_cparse.proofs.read_units.read_typedefs.Given as goal
 
 abbrev pub invariant-each : goal.invariant-each

@@ -1,7 +1,7 @@
 use Rattle.std.proofs.Common.{[], sym, ◌∙◌}
-use Rattle.floyd_grammar.specs.Parse.{pure}
+use Rattle.floyd_grammar.specs.ParseClauses.{pure}
 use Rattle.floyd_cparse.specs.Units.{ReadUnit, unit_of}
-use Rattle.floyd_cparse.specs.UnitReading.{unit, externals}
+use Rattle.floyd_cparse.specs.UnitClauses.{unit, externals}
 use Rattle.floyd_cparse_tokens.proofs.ReadLemmas.{gives_next, gives_fault, gives_from, gives_not}
 use Rattle.floyd_cparse.proofs.UnitShrinks.{external_eats}
 use Rattle.floyd_cparse.proofs.read_units.read_unit.Goals as goal

@@ -1,7 +1,7 @@
 use Rattle.std.proofs.Common.{[], true, length}
 use Rattle.floyd_grammar.proofs.Turns.{Turning}
 use Rattle.floyd_cparse.specs.Units.{ReadUnit, plus_external}
-use Rattle.floyd_cparse.specs.UnitReading.{external, externals}
+use Rattle.floyd_cparse.specs.UnitClauses.{external, externals}
 use Rattle.floyd_cparse.proofs.read_units.read_unit.Given as goal
 
 abbrev pub invariant-each : goal.invariant-each

@@ -8,5 +8,5 @@ returns c =
     let bytes = c.args.bytes.now in
     let list = c.args.tokens.now in
     let at : c.saturating_sub-at.result ≡ length (tokens_of bytes list) - c.args.fault.left = c.saturating_sub-at.ensures ∙ ap (λ n. n - c.args.fault.left) (c.len.ensures ∙ sym (all_tokens bytes list)) in
-    rw (c.refusal-2.ensures, c.code_of.ensures, c.in_ok-shown.ensures, ← at)
+    rw (c.at-2.ensures, c.code_of.ensures, c.in_ok-shown.ensures, ← at)
     (refusal_here bytes list c.args.file c.saturating_sub-at.result c.args.fault.cause c.text.result.now c.place.result c.text.ensures c.place.ensures)

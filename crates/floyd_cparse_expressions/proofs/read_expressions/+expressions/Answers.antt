@@ -1,13 +1,13 @@
 use Rattle.std.proofs.Common.{◌+◌, ◌-◌, pred, Ok, Err, refl, sym, ◌∙◌}
 use Rattle.floyd_lex.specs.declared.kinds.Punctuator.TheVariants as p
-use Rattle.floyd_grammar.specs.Parse.{one, pure, folded, ◌>>=◌}
+use Rattle.floyd_grammar.specs.ParseClauses.{one, pure, folded, ◌>>=◌}
 use Rattle.floyd_cparse_expressions.specs.declared.values.Assigning.{Assigning}
 use Rattle.floyd_cparse_expressions.specs.declared.values.Comma.TheVariants as comma
 use Rattle.floyd_cparse_expressions.specs.declared.values.Infix.{Infix}
 use Rattle.floyd_cparse_expressions.specs.declared.values.Operand.{Operand}
 use Rattle.floyd_cparse_tokens.specs.Tokens.{is_mark}
-use Rattle.floyd_cparse_expressions.specs.Expressions.{Whole, Conditional, infix_token, assign_token, argument_comma, plus_argument, first_argument, assigned, goes_on_unary}
-use Rattle.floyd_cparse_expressions.specs.ExpressionReading.{nested, chain, conditional, assignment, operators, one_postfix, postfixes, argument_list, is_infix, join}
+use Rattle.floyd_cparse_expressions.specs.Expressions.{Whole, Conditional, infix_token, assign_token, argument_comma, plus_argument, first_argument, chain_operand, goes_on_unary}
+use Rattle.floyd_cparse_expressions.specs.ExpressionClauses.{nested, chain, conditional, assignment, operators, one_postfix, postfixes, argument_list, is_infix, join}
 use Rattle.floyd_grammar.proofs.Turns.{turning}
 use Rattle.floyd_cparse_types.specs.Types.{latest}
 use Rattle.floyd_cparse_tokens.proofs.ReadLemmas.{gives_next, gives_fault, gives_then, gives_not, gives_from, gives_init}
@@ -23,7 +23,7 @@ pub read_expr-returns-in_err-chain : goal.read_expr-returns-in_err-chain
 read_expr-returns-in_err-chain t c =
     rw (nested_whole c.args.types.now c.args.room c.args.comma c.args.count c.if-room-eq0.false)
     (gives_from c.from_residual.result c.in_err-chain.field-0.0 c.read_chain.new.reader _ c.from_residual.ensures.1
-    (gives_not (chain c.args.types.now (c.args.room - 1) (nested c.args.types.now (c.args.room - 1)) c.args.comma c.args.count) (λ all. pure (assigned all)) c.args.reader.now c.read_chain.new.reader c.in_err-chain.field-0.0 c.in_err-chain.ensures))
+    (gives_not (chain c.args.types.now (c.args.room - 1) (nested c.args.types.now (c.args.room - 1)) c.args.comma c.args.count) (λ all. pure (chain_operand all)) c.args.reader.now c.read_chain.new.reader c.in_err-chain.field-0.0 c.in_err-chain.ensures))
 
 pub read_inner_conditional-returns-then-room-eq0 : goal.read_inner_conditional-returns-then-room-eq0
 read_inner_conditional-returns-then-room-eq0 t c = rw (nested_none c.args.types.now c.args.room Conditional c.args.comma c.args.count c.if-room-eq0.true) c.refuse_without_room.ensures

@@ -4,7 +4,7 @@ use Rattle.floyd_grammar.proofs.Turns.{Turning}
 use Rattle.floyd_cparse_tokens.specs.Tokens.{is_mark}
 use Rattle.floyd_cparse_types.specs.Types.{latest}
 use Rattle.floyd_cparse_expressions.specs.Expressions.{goes_on_unary, plus_argument, plus_target}
-use Rattle.floyd_cparse_expressions.specs.ExpressionReading.{nested, begins_assignment, assignment, chain, is_infix, join, operators, one_postfix, postfixes, argument_list}
+use Rattle.floyd_cparse_expressions.specs.ExpressionClauses.{nested, begins_assignment, assignment, chain, is_infix, join, operators, one_postfix, postfixes, argument_list}
 use Rattle.floyd_cparse_expressions.specs.declared.values.Operand.{Operand}
 use Rattle.floyd_cparse_expressions.proofs.OperatorShrinks.{next_operand}
 use Rattle.floyd_cparse_expressions.proofs.PostfixShrinks.{next_argument}

@@ -1,7 +1,7 @@
 use Rattle.std.proofs.Common.{◌+◌, ◌≤◌, length}
 use Rattle.floyd_grammar.proofs.Turns.{Turning}
 use Rattle.floyd_cparse_expressions.specs.Expressions.{plus_prefix}
-use Rattle.floyd_cparse_expressions.specs.ExpressionReading.{nested, begins_prefix, one_prefix, prefixes}
+use Rattle.floyd_cparse_expressions.specs.ExpressionClauses.{nested, begins_prefix, one_prefix, prefixes}
 use Rattle.floyd_cparse_expressions.proofs.read_prefixes.read_prefixes.Given as goal
 
 abbrev pub invariant-each : goal.invariant-each

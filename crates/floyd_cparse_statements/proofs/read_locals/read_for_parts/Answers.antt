@@ -1,12 +1,12 @@
 use Rattle.std.proofs.Common.{Err, refl}
 use Rattle.std.specs.Prelude.{Option}
-use Rattle.floyd_grammar.specs.Parse.{pure, ◌>>=◌}
+use Rattle.floyd_grammar.specs.ParseClauses.{pure, ◌>>=◌}
 use Rattle.floyd_cparse_trees.specs.declared.expressions.CExpr.{CExpr}
 use Rattle.floyd_cparse_expressions.specs.declared.values.Comma.TheVariants as comma
 use Rattle.floyd_cparse_statements.specs.declared.values.ForHead.{ForHead}
 use Rattle.floyd_cparse_expressions.specs.Expressions.{close_paren}
 use Rattle.floyd_cparse_statements.specs.Statements.{semicolon}
-use Rattle.floyd_cparse_statements.specs.StatementReading.{for_effect, value, for_parts}
+use Rattle.floyd_cparse_statements.specs.StatementClauses.{for_effect, value, for_parts}
 use Rattle.floyd_cparse_tokens.specs.Tokens.{Types}
 use Rattle.floyd_cparse_tokens.proofs.ReadLemmas.{gives_then, gives_not, gives_from}
 use Rattle.floyd_cparse_statements.proofs.read_locals.read_for_parts.Goals as goal

@@ -1,11 +1,11 @@
 use Rattle.std.proofs.Common.{Err, suc, refl, add-one}
-use Rattle.floyd_grammar.specs.Parse.{one, pure, ◌>>=◌}
+use Rattle.floyd_grammar.specs.ParseClauses.{one, pure, ◌>>=◌}
 use Rattle.floyd_cparse_expressions.specs.declared.values.Operand.{Operand}
 use Rattle.floyd_cparse_expressions.specs.declared.values.Comma.TheVariants as comma
 use Rattle.floyd_cparse_expressions.specs.Expressions.{Whole, close_paren}
-use Rattle.floyd_cparse_expressions.specs.ExpressionReading.{nested}
+use Rattle.floyd_cparse_expressions.specs.ExpressionClauses.{nested}
 use Rattle.floyd_cparse_statements.specs.Statements.{value_end, tree_of}
-use Rattle.floyd_cparse_statements.specs.StatementReading.{inner_condition}
+use Rattle.floyd_cparse_statements.specs.StatementClauses.{inner_condition}
 use Rattle.floyd_cparse_tokens.proofs.ReadLemmas.{gives_then, gives_not, gives_from}
 use Rattle.floyd_cparse_statements.proofs.read_locals.read_inner_condition.Goals as goal
 

@@ -1,6 +1,6 @@
 use Rattle.std.proofs.Common.{sym, ◌∙◌}
 use Rattle.floyd_cparse_statements.specs.Statements.{first_local}
-use Rattle.floyd_cparse_statements.specs.StatementReading.{locals, local}
+use Rattle.floyd_cparse_statements.specs.StatementClauses.{locals, local}
 use Rattle.floyd_cparse_tokens.proofs.ReadLemmas.{begun_behind, gives_next}
 use Rattle.floyd_cparse_statements.proofs.StatementShrinks.{next_local_eats}
 use Rattle.floyd_cparse_statements.proofs.read_locals.read_locals.Goals as goal

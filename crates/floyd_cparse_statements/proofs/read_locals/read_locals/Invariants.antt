@@ -3,7 +3,7 @@ use Rattle.floyd_lex.specs.declared.kinds.Punctuator.TheVariants as p
 use Rattle.floyd_grammar.proofs.Turns.{Turning}
 use Rattle.floyd_cparse_tokens.specs.Tokens.{is_mark}
 use Rattle.floyd_cparse_statements.specs.Statements.{plus_local}
-use Rattle.floyd_cparse_statements.specs.StatementReading.{locals, next_local}
+use Rattle.floyd_cparse_statements.specs.StatementClauses.{locals, next_local}
 use Rattle.floyd_cparse_statements.proofs.read_locals.read_locals.Given as goal
 
 abbrev pub invariant-each : goal.invariant-each

@@ -1,7 +1,7 @@
 use Rattle.std.proofs.Common.{suc, sym, add-one}
 use Rattle.floyd_cparse_expressions.specs.declared.values.Comma.TheVariants as comma
 use Rattle.floyd_cparse_expressions.specs.Expressions.{Whole}
-use Rattle.floyd_cparse_expressions.specs.ExpressionReading.{nested}
+use Rattle.floyd_cparse_expressions.specs.ExpressionClauses.{nested}
 use Rattle.floyd_cparse_statements.specs.Statements.{list_of_values}
 use Rattle.floyd_cparse_statements.proofs.StatementShrinks.{barred_gives, passed_gives}
 use Rattle.floyd_cparse_statements.proofs.read_locals.read_right_side.Goals as goal

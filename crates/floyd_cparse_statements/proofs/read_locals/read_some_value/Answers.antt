@@ -1,10 +1,10 @@
 use Rattle.std.proofs.Common.{Err, suc, refl, add-one}
-use Rattle.floyd_grammar.specs.Parse.{one, pure, ◌>>=◌}
+use Rattle.floyd_grammar.specs.ParseClauses.{one, pure, ◌>>=◌}
 use Rattle.floyd_cparse_expressions.specs.declared.values.Operand.{Operand}
 use Rattle.floyd_cparse_expressions.specs.Expressions.{Whole}
-use Rattle.floyd_cparse_expressions.specs.ExpressionReading.{nested}
+use Rattle.floyd_cparse_expressions.specs.ExpressionClauses.{nested}
 use Rattle.floyd_cparse_statements.specs.Statements.{value_end, some_tree}
-use Rattle.floyd_cparse_statements.specs.StatementReading.{some_value}
+use Rattle.floyd_cparse_statements.specs.StatementClauses.{some_value}
 use Rattle.floyd_cparse_tokens.specs.Tokens.{Sight, is_mark, place_if}
 use Rattle.floyd_cparse_tokens.proofs.ReadLemmas.{gives_then, gives_not, gives_from}
 use Rattle.floyd_cparse_statements.proofs.read_locals.read_some_value.Goals as goal

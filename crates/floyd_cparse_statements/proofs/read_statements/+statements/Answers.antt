@@ -1,11 +1,11 @@
 use Rattle.std.proofs.Common.{Err, pred, refl, sym, ◌∙◌, subst}
-use Rattle.floyd_grammar.specs.Gives.{Gives}
-use Rattle.floyd_grammar.specs.Parse.{Read, one, pure, ◌>>=◌}
+use Rattle.floyd_grammar.specs.GivesClauses.{Gives}
+use Rattle.floyd_grammar.specs.ParseClauses.{Read, one, pure, ◌>>=◌}
 use Rattle.floyd_cparse_statements.specs.declared.values.BlockItems.{BlockItems}
 use Rattle.floyd_cparse_statements.specs.declared.values.ForHead.{ForHead}
 use Rattle.floyd_cparse_statements.specs.declared.values.ReadStatement.{ReadStatement}
 use Rattle.floyd_cparse_statements.specs.Statements.{brace_end, items_of, for_of}
-use Rattle.floyd_cparse_statements.specs.StatementReading.{all_items, block_items, block_item, next_item, statements, after_start, for_head}
+use Rattle.floyd_cparse_statements.specs.StatementClauses.{all_items, block_items, block_item, next_item, statements, after_start, for_head}
 use Rattle.floyd_cparse_tokens.specs.Tokens.{Sight, Types}
 use Rattle.floyd_cparse_tokens.proofs.ReadLemmas.{gives_next, gives_fault, gives_end, gives_from, gives_then, gives_not}
 use Rattle.floyd_cparse_statements.proofs.StatementShrinks.{statements_none, statements_some, next_item_eats, item_passes, for_body, for_in_two}

@@ -1,7 +1,7 @@
 use Rattle.std.proofs.Common.{◌+◌, ◌*◌, length, pred}
 use Rattle.floyd_grammar.proofs.Turns.{Turning}
 use Rattle.floyd_cparse_statements.specs.Statements.{plus_item}
-use Rattle.floyd_cparse_statements.specs.StatementReading.{begins_item, next_item, all_items, statements}
+use Rattle.floyd_cparse_statements.specs.StatementClauses.{begins_item, next_item, all_items, statements}
 use Rattle.floyd_cparse_statements.proofs.read_statements.+statements.Given as goal
 
 abbrev pub decreases-read_statement : goal.decreases-read_statement

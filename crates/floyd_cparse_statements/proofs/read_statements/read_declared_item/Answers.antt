@@ -1,9 +1,9 @@
 use Rattle.std.proofs.Common.{Err, refl, subst}
-use Rattle.floyd_grammar.specs.Gives.{Gives}
-use Rattle.floyd_grammar.specs.Parse.{Read, barring, pure}
+use Rattle.floyd_grammar.specs.GivesClauses.{Gives}
+use Rattle.floyd_grammar.specs.ParseClauses.{Read, barring, pure}
 use Rattle.floyd_cparse_trees.specs.declared.statements.LocalDeclaration.{LocalDeclaration}
 use Rattle.floyd_cparse_statements.specs.Statements.{no_declaration, declaration_item}
-use Rattle.floyd_cparse_statements.specs.StatementReading.{local_declaration, declared_item}
+use Rattle.floyd_cparse_statements.specs.StatementClauses.{local_declaration, declared_item}
 use Rattle.floyd_cparse_tokens.specs.Tokens.{Sight}
 use Rattle.floyd_cparse_tokens.proofs.ReadLemmas.{gives_not, gives_from}
 use Rattle.floyd_cparse_statements.proofs.StatementShrinks.{declaration_passes}

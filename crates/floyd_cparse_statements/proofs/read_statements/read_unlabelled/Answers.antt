@@ -1,6 +1,6 @@
 use Rattle.std.proofs.Common.{sym}
 use Rattle.floyd_cparse_expressions.specs.declared.values.Comma.TheVariants as comma
-use Rattle.floyd_cparse_expressions.specs.ExpressionReading.{effect}
+use Rattle.floyd_cparse_expressions.specs.ExpressionClauses.{effect}
 use Rattle.floyd_cparse_statements.specs.Statements.{label, semicolon}
 use Rattle.floyd_cparse_statements.proofs.StatementShrinks.{barred_gives, passed_gives}
 use Rattle.floyd_cparse_statements.proofs.read_statements.read_unlabelled.Goals as goal

@@ -1,9 +1,9 @@
 use Rattle.std.proofs.Common.{Ok, pred, sym, ◌∙◌}
 use Rattle.floyd_lex.specs.declared.kinds.Punctuator.TheVariants as p
-use Rattle.floyd_grammar.specs.Parse.{one}
+use Rattle.floyd_grammar.specs.ParseClauses.{one}
 use Rattle.floyd_cparse_tokens.specs.Tokens.{is_mark}
 use Rattle.floyd_cparse_types.specs.Types.{comma_token, parameter_comma, first_declarator, plus_declarator, plus_parameter}
-use Rattle.floyd_cparse_types.specs.TypeReading.{within, field_declarators, parameters, parameter}
+use Rattle.floyd_cparse_types.specs.TypeClauses.{within, field_declarators, parameters, parameter}
 use Rattle.floyd_cparse_types.specs.declared.values.Declared.TheVariants as of
 use Rattle.floyd_cparse_tokens.proofs.ReadLemmas.{gives_next, gives_then, gives_init}
 use Rattle.floyd_cparse_types.proofs.TypeShrinks.{next_declarator, next_declarator_eats, next_parameter, next_parameter_eats, field_eats, suffix_eats, specs_none, specs_some, dtor_none, dtor_some}

@@ -3,7 +3,7 @@ use Rattle.floyd_lex.specs.declared.kinds.Punctuator.TheVariants as p
 use Rattle.floyd_grammar.proofs.Turns.{Turning}
 use Rattle.floyd_cparse_tokens.specs.Tokens.{is_mark, Sight}
 use Rattle.floyd_cparse_types.specs.Types.{latest, plus_declarator, plus_field, plus_parameter}
-use Rattle.floyd_cparse_types.specs.TypeReading.{within, field, field_declarators, field_list, parameters, begins_suffix, suffix, suffixes}
+use Rattle.floyd_cparse_types.specs.TypeClauses.{within, field, field_declarators, field_list, parameters, begins_suffix, suffix, suffixes}
 use Rattle.floyd_cparse_types.proofs.TypeShrinks.{next_declarator, next_parameter}
 use Rattle.floyd_cparse_types.proofs.read_types.+declarators.Given as goal
 

@@ -1,10 +1,10 @@
 use Rattle.std.proofs.Common.{length, None}
 use Rattle.floyd_lex.specs.declared.kinds.Keyword.TheVariants as w
-use Rattle.floyd_grammar.specs.Parse.{one}
+use Rattle.floyd_grammar.specs.ParseClauses.{one}
 use Rattle.floyd_grammar.proofs.Turns.{Turning}
 use Rattle.floyd_cparse_tokens.specs.Tokens.{is_word}
 use Rattle.floyd_cparse_types.specs.Types.{keep_first, const_token}
-use Rattle.floyd_cparse_types.specs.TypeReading.{consts}
+use Rattle.floyd_cparse_types.specs.TypeClauses.{consts}
 use Rattle.floyd_cparse_types.proofs.read_types.read_consts.Given as goal
 
 abbrev pub invariant-each : goal.invariant-each

@@ -1,9 +1,9 @@
 use Rattle.std.proofs.Common.{sym, ◌∙◌}
-use Rattle.floyd_grammar.specs.Parse.{one}
+use Rattle.floyd_grammar.specs.ParseClauses.{one}
 use Rattle.floyd_grammar.proofs.Turns.{turning}
 use Rattle.floyd_cparse_tokens.specs.Tokens.{is_there, Sight}
 use Rattle.floyd_cparse_types.specs.Types.{latest, with_word, word_token}
-use Rattle.floyd_cparse_types.specs.TypeReading.{int_words}
+use Rattle.floyd_cparse_types.specs.TypeClauses.{int_words}
 use Rattle.floyd_cparse_types.specs.declared.values.IntWords.{IntWords}
 use Rattle.floyd_cparse_tokens.proofs.Shrinks.{one_eats}
 use Rattle.floyd_cparse_tokens.proofs.ReadLemmas.{gives_next, gives_fault, gives_from}

@@ -3,7 +3,7 @@ use Rattle.floyd_lex.specs.declared.kinds.Punctuator.TheVariants as p
 use Rattle.floyd_grammar.proofs.Turns.{Turning}
 use Rattle.floyd_cparse_tokens.specs.Tokens.{is_mark}
 use Rattle.floyd_cparse_types.specs.Types.{plus_star}
-use Rattle.floyd_cparse_types.specs.TypeReading.{star, stars}
+use Rattle.floyd_cparse_types.specs.TypeClauses.{star, stars}
 use Rattle.floyd_cparse_trees.specs.declared.types.Star.{Star}
 use Rattle.floyd_cparse_types.proofs.read_types.read_stars.Given as goal
 

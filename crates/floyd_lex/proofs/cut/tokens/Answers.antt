@@ -1,4 +1,4 @@
-use Rattle.std.proofs.Common.{◌≡◌, ℕ, ◌+◌, ◌-◌, ◌≤◌, ◌∙◌, List, [], ◌∷◌, ◌++◌, map, length, take, drop, suc, sym, ap, subst, arith}
+use Rattle.std.proofs.Common.{◌≡◌, ℕ, ◌+◌, ◌-◌, ◌≤◌, ◌∙◌, List, [], ◌∷◌, ◌++◌, length, take, drop, suc, sym, ap, subst, arith}
 use Rattle.std.proofs.lemmas.List.{take_rest, length-append}
 use Rattle.floyd_lex.specs.declared.kinds.FileKind.{FileKind}
 use Rattle.floyd_lex.specs.declared.lead.Flaw.TheVariants.{TooManyTokens, LongName}
@@ -6,8 +6,7 @@ use Rattle.floyd_lex.specs.declared.lead.Lead.{Lead}
 use Rattle.floyd_lex.specs.declared.lead.Lead.TheVariants as lead
 use Rattle.floyd_lex.specs.Front.{front}
 use Rattle.floyd_lex.specs.Cuts.{Cuts, stopped, is_long, is_full, refuses}
-use Rattle.floyd_lex.specs.Lines.{place_by}
-use Rattle.floyd_lex.specs.Token.{Piece, placed}
+use Rattle.floyd_lex.specs.Token.{Piece}
 use Rattle.floyd_lex.proofs.CutLemmas.{Rest, skip, piece, skip_within, piece_within, bad_within, stop_answers, end_answers}
 use Rattle.floyd_lex.proofs.cut.tokens.Goals as goal
 
@@ -44,7 +43,7 @@ returns-then-len-eq-TOKEN_LIMIT c =
     let bytes = c.args.bytes.now in
     let e = here kind bytes c.each.at (lead.Piece c.in-Piece.token c.in-Piece.n) c.in-Piece.ensures in
     let none : 0 ≡ 1000000 - length c.each.pieces = omega (arith, c.len.ensures, c.if-len-eq-TOKEN_LIMIT.true) in
-    stop_answers kind bytes c.args.file (1000000 - length c.each.pieces) c.each.at c.each.at c.each.pieces TooManyTokens c.refused.result c.each.invariant.rest (subst (λ (n : ℕ). Cuts kind bytes n c.each.at (stopped TooManyTokens c.each.at)) none (is_full e)) c.refused.ensures
+    stop_answers kind bytes c.args.file (1000000 - length c.each.pieces) c.each.at c.each.at c.each.pieces TooManyTokens c.halt_at.result c.each.invariant.rest (subst (λ (n : ℕ). Cuts kind bytes n c.each.at (stopped TooManyTokens c.each.at)) none (is_full e)) c.halt_at.ensures
 
 pub returns-then-is_long_name : goal.returns-then-is_long_name
 returns-then-is_long_name c =
@@ -53,7 +52,7 @@ returns-then-is_long_name c =
     let e = here kind bytes c.each.at (lead.Piece c.in-Piece.token c.in-Piece.n) c.in-Piece.ensures in
     let less = left_less c.len.result c.each.pieces c.len.ensures c.each.invariant.count c.if-len-eq-TOKEN_LIMIT.false in
     let long = sym c.is_long_name.ensures ∙ c.if-is_long_name.true in
-    stop_answers kind bytes c.args.file (1000000 - length c.each.pieces) c.each.at c.each.at c.each.pieces LongName c.refused-then-is_long_name.result c.each.invariant.rest (subst (λ (n : ℕ). Cuts kind bytes n c.each.at (stopped LongName c.each.at)) (sym less) (is_long e long)) c.refused-then-is_long_name.ensures
+    stop_answers kind bytes c.args.file (1000000 - length c.each.pieces) c.each.at c.each.at c.each.pieces LongName c.halt_at-then-is_long_name.result c.each.invariant.rest (subst (λ (n : ℕ). Cuts kind bytes n c.each.at (stopped LongName c.each.at)) (sym less) (is_long e long)) c.halt_at-then-is_long_name.ensures
 
 pub overflow_add-at-in-Piece : goal.overflow_add-at-in-Piece
 overflow_add-at-in-Piece c =
@@ -97,16 +96,16 @@ overflow_add-at-in-Bad c =
     let w = bad_within c.args.kind c.args.bytes.now c.each.at c.in-Bad.n c.in-Bad.flaw (here c.args.kind c.args.bytes.now c.each.at (lead.Bad c.in-Bad.flaw c.in-Bad.n) c.in-Bad.ensures) c.each.invariant.within in
     omega (arith, w, c.requires)
 
-pub refused-requires-in-Bad : goal.refused-requires-in-Bad
-refused-requires-in-Bad c =
+pub halt_at-requires-in-Bad : goal.halt_at-requires-in-Bad
+halt_at-requires-in-Bad c =
     bad_within c.args.kind c.args.bytes.now c.each.at c.in-Bad.n c.in-Bad.flaw (here c.args.kind c.args.bytes.now c.each.at (lead.Bad c.in-Bad.flaw c.in-Bad.n) c.in-Bad.ensures) c.each.invariant.within
 
 pub returns-in-Bad : goal.returns-in-Bad
 returns-in-Bad c =
     let e = here c.args.kind c.args.bytes.now c.each.at (lead.Bad c.in-Bad.flaw c.in-Bad.n) c.in-Bad.ensures in
-    stop_answers c.args.kind c.args.bytes.now c.args.file (1000000 - length c.each.pieces) c.each.at (c.each.at + c.in-Bad.n) c.each.pieces c.in-Bad.flaw c.refused-in-Bad.result c.each.invariant.rest (refuses e) c.refused-in-Bad.ensures
+    stop_answers c.args.kind c.args.bytes.now c.args.file (1000000 - length c.each.pieces) c.each.at (c.each.at + c.in-Bad.n) c.each.pieces c.in-Bad.flaw c.halt_at-in-Bad.result c.each.invariant.rest (refuses e) c.halt_at-in-Bad.ensures
 
 pub returns : goal.returns
 returns c =
     let e = here c.args.kind c.args.bytes.now c.each.at lead.End c.in-End.ensures in
-    end_answers c.args.kind c.args.bytes.now c.args.file (1000000 - length c.each.pieces) c.each.at c.each.pieces c.in_ok-of.field-0 c.new.result c.each.invariant.rest e c.in_ok-of.ensures (c.new.ensures ∙ ap (λ (ps : List Piece). record { file = c.args.file; items = map (placed (place_by c.args.file c.in_ok-of.field-0)) ps }) c.pieces-2.view_is)
+    end_answers c.args.kind c.args.bytes.now c.args.file (1000000 - length c.each.pieces) c.each.at c.each.pieces c.in_ok-of.field-0 c.new.result c.each.invariant.rest e c.in_ok-of.ensures c.new.ensures

@@ -1,6 +1,6 @@
 use Rattle.std.proofs.Common.{◌∷◌, List, drop, refl, sym, ◌∙◌, ap}
 use Rattle.floyd_cparse_tokens.specs.Tokens.{Sight}
-use Rattle.floyd_cparse_tokens.specs.Seen.{sight_at}
+use Rattle.floyd_cparse_tokens.specs.SeenClauses.{sight_at}
 use Rattle.floyd_cparse_tokens.proofs.SightLemmas.{from_here, from_end}
 use Rattle.floyd_cparse_tokens.proofs.sight.Reader.peek.Goals as goal
 

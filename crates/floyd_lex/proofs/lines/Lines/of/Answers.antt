@@ -1,7 +1,7 @@
 use Rattle.std.proofs.Common.{◌≡◌, ◌≤◌, ◌++◌, List, ℕ, drop, length, sym, ◌∙◌, subst}
 use Rattle.std.proofs.lemmas.List.{append-nil, drop_all}
 use Rattle.std.specs.List.Sorted.{IsStrictlyIncreasing}
-use Rattle.floyd_lex.specs.Lines.{feeds_of, feeds_from}
+use Rattle.floyd_lex.specs.LinesClauses.{feeds_of, feeds_from}
 use Rattle.floyd_lex.proofs.LineLemmas.{feeds_rise}
 use Rattle.floyd_lex.proofs.lines.Lines.of.Goals as goal
 

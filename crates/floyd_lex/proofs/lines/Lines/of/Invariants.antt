@@ -1,5 +1,5 @@
 use Rattle.std.proofs.Common.{◌≡◌, ◌++◌, drop}
-use Rattle.floyd_lex.specs.Lines.{feeds_of, feeds_from}
+use Rattle.floyd_lex.specs.LinesClauses.{feeds_of, feeds_from}
 use Rattle.floyd_lex.proofs.lines.Lines.of.Given as goal
 
 abbrev pub invariant-each : goal.invariant-each

@@ -1,4 +1,4 @@
-use Rattle.floyd_lex.specs.Lines.{place_by}
+use Rattle.floyd_lex.specs.LinesClauses.{place_by}
 use Rattle.floyd_lex.proofs.ListLemmas.{place_at_index}
 use Rattle.floyd_lex.proofs.list.Tokens.place.Goals as goal
 

@@ -1,4 +1,4 @@
-use Rattle.floyd_lex.specs.Lines.{place_by}
+use Rattle.floyd_lex.specs.LinesClauses.{place_by}
 use Rattle.floyd_lex.proofs.ListLemmas.{text_at_index, cut_within}
 use Rattle.floyd_lex.proofs.list.Tokens.text.Goals as goal
 

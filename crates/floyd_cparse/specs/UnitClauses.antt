@@ -18,10 +18,10 @@ use Rattle.floyd_cparse.specs.declared.values.ReadInitialiser.{ReadInitialiser}
 use Rattle.floyd_cparse_types.specs.declared.values.ReadSpecifiers.{ReadSpecifiers}
 use Rattle.floyd_cparse.specs.declared.values.ValueEnd.{ValueEnd}
 use Rattle.floyd_cparse_tokens.specs.Tokens.{without_room, Sight, Types, is_mark, is_word}
-use Rattle.floyd_grammar.specs.Parse.{Parser, one, pure, either, folded, ◌>>=◌, ◌>>◌}
-use Rattle.floyd_cparse_types.specs.TypeReading.{within}
+use Rattle.floyd_grammar.specs.ParseClauses.{Parser, one, pure, either, folded, ◌>>=◌, ◌>>◌}
+use Rattle.floyd_cparse_types.specs.TypeClauses.{within}
 use Rattle.floyd_cparse_statements.specs.Statements.{comma_token, equal_token, brace_end}
-use Rattle.floyd_cparse_statements.specs.StatementReading.{statements, block_items}
+use Rattle.floyd_cparse_statements.specs.StatementClauses.{statements, block_items}
 use Rattle.floyd_cparse.specs.Units.{limit, is_last_comma, is_separator, init_token, element_token, literal_token, element_end, name_token, last_comma_token, separator_token, values_end, typedef_token, extern_token, semicolon_end, body_token, ReadExternal, ReadUnit, Typedefs, element_of, address_of, list_of, literal_read, name_read, first_value, plus_value, first_typedef, plus_typedef, typedef_of, global_with, global_alone, first_global, plus_global, declaration_of, declaration_alone, function_of, read_external, no_externals, plus_external, unit_of, typedefs_end, globals_end}
 
 abbrev pub begins_body : Bool → Sight → Bool

@@ -3,7 +3,7 @@ use Rattle.std.specs.Prelude.{◌≡◌, List, Result, Ok, Err}
 use Rattle.floyd_grammar.specs.declared.stop.Stop.TheVariants as stop
 use Rattle.floyd_grammar.specs.declared.stop.Stop.{Stop}
 use Rattle.floyd_grammar.specs.declared.stop.Fault.{Fault}
-use Rattle.floyd_grammar.specs.Parse.{Read}
+use Rattle.floyd_grammar.specs.ParseClauses.{Read}
 
 -- The answer, and the tokens that are left, are what a parser function says, unless memory ran out.
 abbrev pub Gives : {T A : Type 0} → Result A Stop → List T → Read T A → Type 0

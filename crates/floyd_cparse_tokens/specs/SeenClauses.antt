@@ -3,7 +3,7 @@ use Rattle.std.specs.Prelude.{ℕ, suc, List, [], ◌∷◌, length, drop, slice
 use Rattle.std.specs.Prelude as base
 use Rattle.floyd_lex.specs.declared.kinds.TokenKind.TheVariants as k
 use Rattle.floyd_lex.specs.Token.{Token, TokenList, tokens_in}
-use Rattle.floyd_grammar.specs.Parse.{Parser, taken}
+use Rattle.floyd_grammar.specs.ParseClauses.{Parser, taken}
 use Rattle.floyd_cparse_tokens.specs.Tokens.{Sight, sights}
 
 -- no token, which is never looked at

@@ -24,10 +24,10 @@ use Rattle.floyd_cparse_expressions.specs.declared.values.PrefixStart.TheVariant
 use Rattle.floyd_cparse_expressions.specs.declared.values.Prefixes.{Prefixes}
 use Rattle.floyd_cparse_types.specs.declared.values.ReadSpecifiers.{ReadSpecifiers}
 use Rattle.floyd_cparse_tokens.specs.Tokens.{without_room, is_there, Sight, Types, is_mark}
-use Rattle.floyd_grammar.specs.Parse.{Parser, one, pure, either, folded, ◌>>=◌, ◌>>◌}
+use Rattle.floyd_grammar.specs.ParseClauses.{Parser, one, pure, either, folded, ◌>>=◌, ◌>>◌}
 use Rattle.floyd_cparse_types.specs.Types.{latest}
-use Rattle.floyd_cparse_types.specs.TypeReading.{within}
-use Rattle.floyd_cparse_expressions.specs.Expressions.{Level, Whole, Conditional, binary_op, goes_on_unary, is_wide, inside, start_of_prefix, prefix_token, operand_token, postfix_token, infix_at, infix_token, question_token, colon_token, assigning_of, assign_token, typename_end, argument_comma, arguments_end, no_arguments_end, index_end, inner_end, field_token, open_token, joined, chosen, assigned, plus_target, all_prefixed, no_prefixes, one_prefix_of, plus_prefix, first_argument, plus_argument, nothing_given, indexed, called, member_of, stepped, named, constant, parenthesised, sized, type_name, first_target, effect_token, effect_end_token, assign}
+use Rattle.floyd_cparse_types.specs.TypeClauses.{within}
+use Rattle.floyd_cparse_expressions.specs.Expressions.{Level, Whole, Conditional, binary_op, goes_on_unary, is_wide, inside, start_of_prefix, prefix_token, operand_token, postfix_token, infix_at, infix_token, question_token, colon_token, assigning_of, assign_token, typename_end, argument_comma, arguments_end, no_arguments_end, index_end, inner_end, field_token, open_token, binary_of, choice_of, chain_operand, plus_target, with_prefixes, no_prefixes, one_prefix_of, plus_prefix, first_argument, plus_argument, nothing_given, subscript_of, call_of, member_of, step_of, name_operand, constant, parentheses_of, size_operand, type_name, first_target, effect_token, effect_end_token, assign}
 
 -- a prefix begins, unless it is too deep
 abbrev pub begins_prefix : Types → ℕ → Prefixes → Sight → Bool
@@ -40,7 +40,7 @@ abbrev pub begins_assignment : Chain → Sight → Bool
 begins_assignment chain s = is_there (assigning_of s) && not (is_wide chain.last.end.form)
 
 abbrev pub join : Operand → Infix × Operand → Operand
-join left next = joined next.0 left next.1
+join left next = binary_of next.0 left next.1
 
 -- `room` is left here, and `inner` has expressions one bracket or `?` further in, by what a `,` is behind them and the
 -- operators before them.
@@ -93,14 +93,14 @@ module _ (types : Types) (room : ℕ) (inner : Level → Comma → ℕ → Parse
   after_postfix_start x (postfix_start.Index place) = do
     index ← inner Whole comma.Plain (x.end.count + 1)
     _ ← one (index_end types (pred room) index)
-    pure (indexed x place index)
+    pure (subscript_of x place index)
   after_postfix_start x (postfix_start.Call place) = do
     all ← arguments (x.end.count + 1)
-    pure (called x place all)
+    pure (call_of x place all)
   after_postfix_start x (postfix_start.Member op place) = do
     field ← one (field_token types room (x.end.count + 1))
     pure (member_of x op place field)
-  after_postfix_start x (postfix_start.Step op place) = pure (stepped x op place)
+  after_postfix_start x (postfix_start.Step op place) = pure (step_of x op place)
 
   unfoldable pub one_postfix : Operand → Parser Sight Operand
   one_postfix x = one (postfix_token room x.end) >>= after_postfix_start x
@@ -113,7 +113,7 @@ module _ (types : Types) (room : ℕ) (inner : Level → Comma → ℕ → Parse
   inner_expr count = do
     x ← inner Whole comma.LeftOut count
     _ ← one (inner_end types (pred room) x)
-    pure (parenthesised x)
+    pure (parentheses_of x)
 
   -- "(" expr ")" and what stands behind it
   abbrev pub in_parentheses : ℕ → Parser Sight Operand
@@ -121,11 +121,11 @@ module _ (types : Types) (room : ℕ) (inner : Level → Comma → ℕ → Parse
 
   -- "sizeof" "(" typename ")"
   unfoldable pub size : Place → ℕ → Parser Sight Operand
-  size place count = one (open_token types room count) >> (typename count >>= λ type. pure (sized place type))
+  size place count = one (open_token types room count) >> (typename count >>= λ type. pure (size_operand place type))
 
   -- postfix | "sizeof" "(" typename ")"
   unfoldable pub after_operand_start : ℕ → OperandStart → Parser Sight Operand
-  after_operand_start count (start.Name name) = postfixes (named name count)
+  after_operand_start count (start.Name name) = postfixes (name_operand name count)
   after_operand_start count (start.Literal literal) = postfixes (constant literal count)
   after_operand_start count (start.Open place) = in_parentheses count
   after_operand_start count (start.SizeOf place) = size place count
@@ -138,7 +138,7 @@ module _ (types : Types) (room : ℕ) (inner : Level → Comma → ℕ → Parse
   unary count = do
     all ← prefixes count
     x ← operand all
-    pure (all_prefixed all.items x)
+    pure (with_prefixes all.items x)
 
   -- binary operators of so many levels
   unfoldable pub operators : ℕ → ℕ → Parser Sight Operand
@@ -151,7 +151,7 @@ module _ (types : Types) (room : ℕ) (inner : Level → Comma → ℕ → Parse
   otherwise c condition place middle = do
     _ ← one (colon_token types c (pred room) middle)
     last ← inner Conditional c middle.end.count
-    pure (chosen condition place middle last)
+    pure (choice_of condition place middle last)
 
   unfoldable pub choice : Comma → Operand → Parser Sight Operand
   choice c condition = one (question_token room condition) >>= λ place. inner Whole (inside c) condition.end.count >>= otherwise c condition place
@@ -171,7 +171,7 @@ module _ (types : Types) (room : ℕ) (inner : Level → Comma → ℕ → Parse
   chain c count = conditional c count >>= λ first. folded begins_assignment plus_target (assignment c) (first_target first)
 
   unfoldable pub expr : Comma → ℕ → Parser Sight Operand
-  expr c count = chain c count >>= λ all. pure (assigned all)
+  expr c count = chain c count >>= λ all. pure (chain_operand all)
 
   unfoldable pub at_level : Level → Comma → ℕ → Parser Sight Operand
   at_level Whole c count = expr c count

@@ -27,8 +27,8 @@ use Rattle.floyd_cparse_types.specs.declared.values.SuffixStart.TheVariants as s
 use Rattle.floyd_cparse_types.specs.declared.values.Tag.{Tag}
 use Rattle.floyd_cparse_types.specs.declared.values.Tag.TheVariants as tag
 use Rattle.floyd_cparse_tokens.specs.Tokens.{without_room, Sight, Types, is_mark, is_word}
-use Rattle.floyd_grammar.specs.Parse.{Parser, one, pure, either, folded, ◌>>=◌, ◌>>◌}
-use Rattle.floyd_cparse_types.specs.Types.{keep_first, const_token, with_word, word_token, kind_of_words, plus_declarator, comma_token, brace_end, field_end, fields_token, tag_token, base_token, star_token, parameter_comma, parameters_end, no_parameters_end, inner_end, size_end, size_token, core_token, suffix_token, start_of_core, is_shadowed, is_named, opens_parameters, plus_field, plus_star, first_declarator, specifiers_of, one_parameter, plus_parameter, no_parameters, named, absent, latest, suffixed, starred, without_void}
+use Rattle.floyd_grammar.specs.ParseClauses.{Parser, one, pure, either, folded, ◌>>=◌, ◌>>◌}
+use Rattle.floyd_cparse_types.specs.Types.{keep_first, const_token, with_word, word_token, kind_of_words, plus_declarator, comma_token, brace_end, field_end, fields_token, tag_token, base_token, star_token, parameter_comma, parameters_end, no_parameters_end, inner_end, size_end, size_token, core_token, suffix_token, start_of_core, is_shadowed, is_named, opens_parameters, plus_field, plus_star, first_declarator, specifiers_of, one_parameter, plus_parameter, no_parameters, named, absent, latest, with_suffix, with_stars, without_void}
 use Rattle.floyd_cparse_tokens.specs.Tokens.{is_there}
 
 unfoldable pub consts : ℕ → ℕ → Option Place → Parser Sight (Option Place)
@@ -152,7 +152,7 @@ module _ (types : Types) (room : ℕ) (inner : TypeReaders) where
   after_core declared count (core_start.Open place) = do
     declarator ← inner.dtor declared count
     _ ← one (inner_end types declared (pred room) declarator.end)
-    pure (suffixed declarator (d.Parenthesised place declarator.tree) declarator.end.count)
+    pure (with_suffix declarator (d.Parenthesised place declarator.tree) declarator.end.count)
 
   unfoldable pub present : Declared → ℕ → ℕ → Parser Sight ReadDeclarator
   present declared count run = one (core_token types declared room count run) >>= after_core declared count
@@ -166,16 +166,16 @@ module _ (types : Types) (room : ℕ) (inner : TypeReaders) where
 
   -- "[" [literal] "]" and "(" [params] ")" behind it
   unfoldable pub after_size : ReadDeclarator → Place → SizeStart → Parser Sight ReadDeclarator
-  after_size declarator place size_start.End = pure (suffixed declarator (d.Array declarator.tree place None) (declarator.end.count + 1))
+  after_size declarator place size_start.End = pure (with_suffix declarator (d.Array declarator.tree place None) (declarator.end.count + 1))
   after_size declarator place (size_start.Size literal) = do
     _ ← one (size_end types (pred room) (declarator.end.count + 1))
-    pure (suffixed declarator (d.Array declarator.tree place (Some literal)) (declarator.end.count + 1))
+    pure (with_suffix declarator (d.Array declarator.tree place (Some literal)) (declarator.end.count + 1))
 
   unfoldable pub after_suffix : ReadDeclarator → SuffixStart → Parser Sight ReadDeclarator
   after_suffix declarator (suffix_start.Array place) = one (size_token types (pred room) (declarator.end.count + 1)) >>= after_size declarator place
   after_suffix declarator (suffix_start.Function place) = do
     all ← params (declarator.end.count + 1)
-    pure (suffixed declarator (d.Function declarator.tree place all.items) all.end.count)
+    pure (with_suffix declarator (d.Function declarator.tree place all.items) all.end.count)
 
   unfoldable pub suffix : Declared → ReadDeclarator → Parser Sight ReadDeclarator
   suffix declared declarator = one (suffix_token types declared room declarator.end) >>= after_suffix declarator
@@ -189,7 +189,7 @@ module _ (types : Types) (room : ℕ) (inner : TypeReaders) where
     before ← stars room count
     first ← core declared count (length before)
     all ← suffixes declared first
-    pure (record all { tree = starred before all.tree })
+    pure (record all { tree = with_stars before all.tree })
 
 -- The readers where `n` less one is left: none where nothing is.
 unfoldable pub nothing_left : TypeReaders

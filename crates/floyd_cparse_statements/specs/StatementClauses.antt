@@ -22,12 +22,12 @@ use Rattle.floyd_cparse_statements.specs.declared.values.ReadStatement.{ReadStat
 use Rattle.floyd_cparse_statements.specs.declared.values.StatementStart.{StatementStart}
 use Rattle.floyd_cparse_statements.specs.declared.values.StatementStart.TheVariants as start
 use Rattle.floyd_cparse_tokens.specs.Tokens.{without_room, Sight, Types, is_mark, is_word, is_deep}
-use Rattle.floyd_grammar.specs.Parse.{Parser, one, pure, either, barring, folded, ◌>>=◌, ◌>>◌}
+use Rattle.floyd_grammar.specs.ParseClauses.{Parser, one, pure, either, barring, folded, ◌>>=◌, ◌>>◌}
 use Rattle.floyd_cparse_tokens.specs.Tokens.{is_there}
-use Rattle.floyd_cparse_types.specs.TypeReading.{within}
+use Rattle.floyd_cparse_types.specs.TypeClauses.{within}
 use Rattle.floyd_cparse_expressions.specs.Expressions.{Whole, close_paren, open_token}
-use Rattle.floyd_cparse_expressions.specs.ExpressionReading.{nested, effect}
-use Rattle.floyd_cparse_statements.specs.Statements.{label, begins_declaration, no_declaration, list_of_values, is_taken_else, taken_else, semicolon, comma_token, equal_token, brace_end, ending_token, value_end, semicolon_token, while_token, start_of_statement, statement_token, else_token, locals_end, tree_of, some_tree, local_with, local_alone, first_local, plus_local, declared, declaration_item, statement_item, no_items, plus_item, items_of, closed, block, effect_of, if_alone, if_else, while_of, do_of, for_of, return_of}
+use Rattle.floyd_cparse_expressions.specs.ExpressionClauses.{nested, effect}
+use Rattle.floyd_cparse_statements.specs.Statements.{label, begins_declaration, no_declaration, list_of_values, is_taken_else, taken_else, semicolon, comma_token, equal_token, brace_end, ending_token, value_end, semicolon_token, while_token, start_of_statement, statement_token, else_token, locals_end, tree_of, some_tree, local_with, local_alone, first_local, plus_local, declared, declaration_item, statement_item, no_items, plus_item, items_of, whole_statement, block, effect_of, if_alone, if_else, while_of, do_of, for_of, return_of}
 
 -- the cause for which the next token is barred
 abbrev pub barred_next : (Sight → Option ℕ) → List Sight → Option ℕ
@@ -183,13 +183,13 @@ module _ (types : Types) where
 
     unfoldable pub after_start : StatementStart → Parser Sight ReadStatement
     after_start start.Block = block_items (pred room) inner >>= λ items. pure (block items)
-    after_start start.Empty = pure (closed s.Empty)
+    after_start start.Empty = pure (whole_statement s.Empty)
     after_start (start.If place) = if_statement place
     after_start (start.While place) = while_statement place
     after_start start.Do = do_statement
     after_start (start.For place) = for_statement place
-    after_start start.Break = one (semicolon_token types room 0) >> pure (closed s.Break)
-    after_start start.Continue = one (semicolon_token types room 0) >> pure (closed s.Continue)
+    after_start start.Break = one (semicolon_token types room 0) >> pure (whole_statement s.Break)
+    after_start start.Continue = one (semicolon_token types room 0) >> pure (whole_statement s.Continue)
     after_start (start.Return place) = value room comma.Plain semicolon >>= λ x. pure (return_of place x)
 
     unfoldable pub started : Parser Sight ReadStatement

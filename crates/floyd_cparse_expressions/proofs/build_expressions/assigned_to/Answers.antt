@@ -1,9 +1,0 @@
-use Rattle.std.proofs.Common.{sym, ◌∙◌, ap}
-use Rattle.floyd_cparse_expressions.specs.Expressions.{assigned_to}
-use Rattle.floyd_cparse_expressions.proofs.BuildLemmas.{last_target}
-use Rattle.floyd_cparse_expressions.proofs.build_expressions.assigned_to.Goals as goal
-
-pub each-preserved : goal.each-preserved
-each-preserved c =
-    rw c.in_ok-value.ensures
-    (sym (last_target c.pop.new.self c.in-Some.target c.each.value) ∙ ap (λ z. assigned_to z c.each.value) (sym c.in-Some.ensures) ∙ c.each.invariant)
