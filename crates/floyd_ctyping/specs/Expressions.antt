@@ -26,11 +26,11 @@ use Rattle.floyd_ctyping.specs.declared.operand.Standing.{Standing}
 use Rattle.floyd_ctyping.specs.declared.operand.Standing.TheVariants.{Value, Zero, Object, Parameter}
 use Rattle.floyd_elab_names.specs.Refusals.{left_out, ill_typed, undeclared, nested_effect, bad_cast}
 use Rattle.floyd_elab_names.specs.declared.tags.Tags.{Tags}
-use Rattle.floyd_elab_names.specs.Doing.{◌>>=◌, ◌>>◌, pure, refuse, unless, or_refuse}
+use Rattle.floyd_elab_names.specs.Refusing.{◌>>=◌, ◌>>◌, pure, refuse, unless, or_refuse}
 use Rattle.floyd_elab_names.specs.Typing.{Typing, the_structs}
 use Rattle.floyd_elab_names.specs.Scopes.{Scopes, meaning_of}
 use Rattle.floyd_elab_names.specs.Types.{int_type, size_type, has_size}
-use Rattle.floyd_ctyping.specs.Operators.{value_of_type, object_of_type, is_parameter, is_test, sign_type, not_type, dereferenced, address_type, common_type, binary_type, element_type, struct_before, is_target, is_cast, called, is_stepped}
+use Rattle.floyd_ctyping.specs.Operators.{value_of_type, object_of_type, is_parameter, is_test, sign_type, not_type, dereference_type, address_type, common_type, binary_type, element_type, struct_before, is_target, is_cast, callee_signature, is_stepped}
 use Rattle.floyd_elab_names.specs.Declarators.{parenthesis, ampersand, sizeof_site, type_named}
 
 -- Names and literals.
@@ -41,10 +41,10 @@ standing_in kept.Block = Object
 standing_in kept.Temporary = Object
 standing_in kept.Parameter = Parameter
 
-abbrev pub named : Identifier → Option Meaning → Typing Operand
-named i (Some (m.Variable clight t storage)) = pure (record { ctype = t; standing = standing_in storage })
-named i (Some (m.Function t)) = pure (value_of_type t)
-named i meaning = refuse (undeclared i)
+abbrev pub name_operand : Identifier → Option Meaning → Typing Operand
+name_operand i (Some (m.Variable clight t storage)) = pure (record { ctype = t; standing = standing_in storage })
+name_operand i (Some (m.Function t)) = pure (value_of_type t)
+name_operand i meaning = refuse (undeclared i)
 
 -- the constant 0 is a literal of that value
 abbrev pub standing_of : ℕ → Standing
@@ -78,7 +78,7 @@ prefix_operator Minus place a = gives_value place (sign_type a)
 prefix_operator Plus place a = gives_value place (sign_type a)
 prefix_operator Complement place a = gives_value place (sign_type a)
 prefix_operator Not place a = gives_value place (not_type a)
-prefix_operator Dereference place a = gives_object place (dereferenced a)
+prefix_operator Dereference place a = gives_object place (dereference_type a)
 prefix_operator Address place a = address_of place a
 
 abbrev pub cast_to : Place → CType → Operand → Typing Operand
@@ -102,12 +102,12 @@ nested_assignment place a = do
 -- a call inside one, as far as its parenthesis
 abbrev pub nested_call : Place → ℕ → Operand → Typing Operand
 nested_call place count a = do
-  unless (ill_typed place) (is_some (called count a))
+  unless (ill_typed place) (is_some (callee_signature count a))
   refuse (nested_effect place)
 
 -- a test, directly behind it
-abbrev pub tested : Place → Operand → Typing (Unit {0})
-tested place a = unless (ill_typed place) (is_test a)
+abbrev pub check_test : Place → Operand → Typing (Unit {0})
+check_test place a = unless (ill_typed place) (is_test a)
 
 -- a field, where the struct before it is complete and has it
 abbrev pub member : MemberOp → Place → Identifier → Operand → Typing Operand
@@ -127,71 +127,71 @@ module _ (scopes : Scopes) where
     pure t
 
   -- prefixes before an operand, the last of which binds first; the types in casts come before the operand
-  abbrev pub prefixed : List Prefix → Typing Operand → Typing Operand
-  prefixed [] operand = operand
-  prefixed (before.Op op place ∷ rest) operand = do
-    a ← prefixed rest operand
+  abbrev pub prefixed_operand : List Prefix → Typing Operand → Typing Operand
+  prefixed_operand [] operand = operand
+  prefixed_operand (before.Op op place ∷ rest) operand = do
+    a ← prefixed_operand rest operand
     prefix_operator op place a
-  prefixed (before.Step op place ∷ rest) operand = do
-    a ← prefixed rest operand
+  prefixed_operand (before.Step op place ∷ rest) operand = do
+    a ← prefixed_operand rest operand
     nested_step place a
-  prefixed (before.Cast n place ∷ rest) operand = do
+  prefixed_operand (before.Cast n place ∷ rest) operand = do
     t ← type_named scopes (parenthesis place) n
-    a ← prefixed rest operand
+    a ← prefixed_operand rest operand
     cast_to place t a
 
   -- an operator between two operands
-  abbrev pub joined : BinaryOp → Place → Typing Operand → Typing Operand → Typing Operand
-  joined (binary.Int op) place left right = do
+  abbrev pub binary_operand : BinaryOp → Place → Typing Operand → Typing Operand → Typing Operand
+  binary_operand (binary.Int op) place left right = do
     a ← left
     b ← right
     structs ← the_structs
     gives_value place (binary_type structs op a b)
-  joined binary.And place left right = do
+  binary_operand binary.And place left right = do
     a ← left
-    tested place a
+    check_test place a
     b ← right
-    tested place b
+    check_test place b
     pure (value_of_type int_type)
-  joined binary.Or place left right = do
+  binary_operand binary.Or place left right = do
     a ← left
-    tested place a
+    check_test place a
     b ← right
-    tested place b
+    check_test place b
     pure (value_of_type int_type)
 
   -- an element of an array
-  abbrev pub indexed : Place → Typing Operand → Typing Operand → Typing Operand
-  indexed place array index = do
+  abbrev pub element_operand : Place → Typing Operand → Typing Operand → Typing Operand
+  element_operand place array index = do
     a ← array
     i ← index
     structs ← the_structs
     gives_object place (element_type structs a i)
 
   -- one of two values, as a test has it
-  abbrev pub chosen : Place → Typing Operand → Typing Operand → Typing Operand → Typing Operand
-  chosen place test then_part else_part = do
+  abbrev pub conditional_operand : Place → Typing Operand → Typing Operand → Typing Operand → Typing Operand
+  conditional_operand place test then_part else_part = do
     c ← test
-    tested place c
+    check_test place c
     a ← then_part
     b ← else_part
     gives_value place (common_type a b)
 
   -- an expression
-  abbrev pub typed : e.CExpr → Typing Operand
-  typed (e.Name i) = named i (meaning_of scopes i.name)
-  typed (e.Literal l) = pure (literal_operand l)
-  typed (e.Parenthesised' p (e.more_of-CExpr inner e.end_of-CExpr)) = typed inner
-  typed (e.Prefixed' prefixes p (e.more_of-CExpr operand e.end_of-CExpr)) = prefixed prefixes (typed operand)
-  typed (e.SizeOf place n) = sized_type place n >> pure (value_of_type size_type)
-  typed (e.PostfixStep' p (e.more_of-CExpr operand e.end_of-CExpr) op place) = typed operand >>= nested_step place
-  typed (e.Index' p (e.more_of-CExpr array e.end_of-CExpr) place q (e.more_of-CExpr index e.end_of-CExpr)) = indexed place (typed array) (typed index)
-  typed (e.Call' p (e.more_of-CExpr function e.end_of-CExpr) place shape arguments) = typed function >>= nested_call place (length shape)
-  typed (e.Member' p (e.more_of-CExpr operand e.end_of-CExpr) op place field) = typed operand >>= member op place field
-  typed (e.Binary' p (e.more_of-CExpr left e.end_of-CExpr) op place q (e.more_of-CExpr right e.end_of-CExpr)) = joined op place (typed left) (typed right)
-  typed (e.Conditional' p (e.more_of-CExpr test e.end_of-CExpr) place q (e.more_of-CExpr then_part e.end_of-CExpr) r (e.more_of-CExpr else_part e.end_of-CExpr)) =
-      chosen place (typed test) (typed then_part) (typed else_part)
-  typed (e.Assign' p (e.more_of-CExpr target e.end_of-CExpr) op place q value) = typed target >>= nested_assignment place
+  abbrev pub operand_of : e.CExpr → Typing Operand
+  operand_of (e.Name i) = name_operand i (meaning_of scopes i.name)
+  operand_of (e.Literal l) = pure (literal_operand l)
+  operand_of (e.Parenthesised' p (e.more_of-CExpr inner e.end_of-CExpr)) = operand_of inner
+  operand_of (e.Prefixed' prefixes p (e.more_of-CExpr operand e.end_of-CExpr)) = prefixed_operand prefixes (operand_of operand)
+  operand_of (e.SizeOf place n) = sized_type place n >> pure (value_of_type size_type)
+  operand_of (e.PostfixStep' p (e.more_of-CExpr operand e.end_of-CExpr) op place) = operand_of operand >>= nested_step place
+  operand_of (e.Index' p (e.more_of-CExpr array e.end_of-CExpr) place q (e.more_of-CExpr index e.end_of-CExpr)) = element_operand place (operand_of array) (operand_of index)
+  operand_of (e.Call' p (e.more_of-CExpr function e.end_of-CExpr) place shape arguments) = operand_of function >>= nested_call place (length shape)
+  operand_of (e.Member' p (e.more_of-CExpr operand e.end_of-CExpr) op place field) = operand_of operand >>= member op place field
+  operand_of (e.Binary' p (e.more_of-CExpr left e.end_of-CExpr) op place q (e.more_of-CExpr right e.end_of-CExpr)) = binary_operand op place (operand_of left) (operand_of right)
+  operand_of (e.Conditional' p (e.more_of-CExpr test e.end_of-CExpr) place q (e.more_of-CExpr then_part e.end_of-CExpr) r (e.more_of-CExpr else_part e.end_of-CExpr)) =
+      conditional_operand place (operand_of test) (operand_of then_part) (operand_of else_part)
+  operand_of (e.Assign' p (e.more_of-CExpr target e.end_of-CExpr) op place q value) = operand_of target >>= nested_assignment place
 
 -- the type of an expression, by what was found
 abbrev pub type_in : Result (Operand × Tags) Refusal → Result CType Refusal
@@ -199,7 +199,7 @@ type_in (Ok r) = Ok r.0.ctype
 type_in (Err refusal) = Err refusal
 
 abbrev pub type_of : Scopes → Tags → e.CExpr → Result CType Refusal
-type_of scopes tags e = type_in (typed scopes e tags)
+type_of scopes tags e = type_in (operand_of scopes e tags)
 
 -- the same among structs, without what was completed where
 abbrev pub type_among : Scopes → Structs → e.CExpr → Result CType Refusal

@@ -10,7 +10,7 @@ use Rattle.floyd_cparse_trees.specs.declared.expressions.MemberOp.TheVariants.{D
 use Rattle.floyd_ctyping.specs.declared.operand.Operand.{Operand}
 use Rattle.floyd_ctyping.specs.declared.operand.Standing.{Standing}
 use Rattle.floyd_ctyping.specs.declared.operand.Standing.TheVariants.{Value, Zero, Object, Parameter}
-use Rattle.floyd_elab_names.specs.Types.{promoted, usual, pointer_to, int_type, same_type, is_void, is_function, is_scalar, decayed, pointee, tag_of, has_size}
+use Rattle.floyd_elab_names.specs.Types.{promote, usual, pointer_to, int_type, same_type, is_void, is_function, is_scalar, decay, pointee, tag_of, has_size}
 
 abbrev pub when : {A : Type 0} → Bool → A → Option A
 when fits a = if fits then Some a else None
@@ -41,7 +41,7 @@ is_parameter Parameter = true
 
 -- the type of an operand's value
 abbrev pub value_type : Operand → CType
-value_type a = decayed a.ctype
+value_type a = decay a.ctype
 
 -- a test is of a number or a pointer
 abbrev pub is_test : Operand → Bool
@@ -49,7 +49,7 @@ is_test a = is_scalar (value_type a)
 
 -- `-`, `+` and `~` take a number and promote it
 abbrev pub promoted_type : CType → Option CType
-promoted_type (Int k) = Some (Int (promoted k))
+promoted_type (Int k) = Some (Int (promote k))
 promoted_type t = None
 
 abbrev pub sign_type : Operand → Option CType
@@ -60,11 +60,11 @@ abbrev pub not_type : Operand → Option CType
 not_type a = when (is_test a) int_type
 
 -- `*` leads to anything but void
-abbrev pub led_to : CType → Option CType
-led_to t = when (not (is_void t)) t
+abbrev pub unless_void : CType → Option CType
+unless_void t = when (not (is_void t)) t
 
-abbrev pub dereferenced : Operand → Option CType
-dereferenced a = option_and_then led_to (pointee (value_type a))
+abbrev pub dereference_type : Operand → Option CType
+dereference_type a = option_and_then unless_void (pointee (value_type a))
 
 -- `&` takes an object or a function
 abbrev pub address_type : Operand → Option CType
@@ -77,7 +77,7 @@ number_of t u = None
 
 -- A shift has the promoted type of its left operand.
 abbrev pub shift_of : CType → CType → Option CType
-shift_of (Int j) (Int k) = Some (Int (promoted j))
+shift_of (Int j) (Int k) = Some (Int (promote j))
 shift_of t u = None
 
 -- A number may be added to a pointer, on either side, and be subtracted from one. What is pointed to has a size.
@@ -125,15 +125,15 @@ abbrev pub points_to_function : CType → Bool
 points_to_function (Pointer' p (more_of-CType t end_of-CType)) = is_function t
 points_to_function t = false
 
-abbrev pub ordered : CType → Option CType
-ordered t = when (not (points_to_function t)) t
+abbrev pub with_order : CType → Option CType
+with_order t = when (not (points_to_function t)) t
 
 -- the type that both operands of `<`, `<=`, `>` and `>=` are cast to
 abbrev pub order_type : Operand → Operand → Option CType
-order_type a b = option_and_then ordered (common_type a b)
+order_type a b = option_and_then with_order (common_type a b)
 
-abbrev pub compared : Option CType → Option CType
-compared common = option_map (λ t. int_type) common
+abbrev pub comparison_type : Option CType → Option CType
+comparison_type common = option_map (λ t. int_type) common
 
 -- an operator on two operands
 abbrev pub binary_type : Structs → IntOp → Operand → Operand → Option CType
@@ -147,12 +147,12 @@ binary_type structs Or a b = number_of (value_type a) (value_type b)
 binary_type structs Xor a b = number_of (value_type a) (value_type b)
 binary_type structs Shl a b = shift_of (value_type a) (value_type b)
 binary_type structs Shr a b = shift_of (value_type a) (value_type b)
-binary_type structs Eq a b = compared (common_type a b)
-binary_type structs Ne a b = compared (common_type a b)
-binary_type structs Lt a b = compared (order_type a b)
-binary_type structs Le a b = compared (order_type a b)
-binary_type structs Gt a b = compared (order_type a b)
-binary_type structs Ge a b = compared (order_type a b)
+binary_type structs Eq a b = comparison_type (common_type a b)
+binary_type structs Ne a b = comparison_type (common_type a b)
+binary_type structs Lt a b = comparison_type (order_type a b)
+binary_type structs Le a b = comparison_type (order_type a b)
+binary_type structs Gt a b = comparison_type (order_type a b)
+binary_type structs Ge a b = comparison_type (order_type a b)
 
 -- the element of `a[i]`, which is `*(a + i)`
 abbrev pub element_type : Structs → Operand → Operand → Option CType
@@ -216,8 +216,8 @@ signature a = option_and_then signature_of (pointee (value_type a))
 abbrev pub with_count : ℕ → List CType × CType → Option (List CType × CType)
 with_count n s = when (length s.0 == n) s
 
-abbrev pub called : ℕ → Operand → Option (List CType × CType)
-called n a = option_and_then (with_count n) (signature a)
+abbrev pub callee_signature : ℕ → Operand → Option (List CType × CType)
+callee_signature n a = option_and_then (with_count n) (signature a)
 
 -- `++` and `--` add or subtract 1, and the sum goes to what it was made of
 abbrev pub is_stepped : Structs → Operand → Bool

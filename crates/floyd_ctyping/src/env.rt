@@ -4,10 +4,10 @@ ghost use Rattle.floyd_text.specs.Gives.{Gives};
 ghost use Rattle.floyd_ctypes.specs.Define.{declared, completed, refusal, Answers};
 ghost use Rattle.floyd_ctypes.specs.Layout.{type_fits};
 ghost use Rattle.floyd_ctypes.specs.Structs.{has_tag};
-ghost use Rattle.floyd_elab_names.specs.Scopes.{entered, left, with_meaning};
+ghost use Rattle.floyd_elab_names.specs.Scopes.{enter, leave, with_meaning};
 ghost use Rattle.floyd_ctyping.specs.Expressions.{type_among};
 
-use crate::typed::typed;
+use crate::walk::operand_of;
 use floyd_cparse_trees::CExpr;
 use floyd_ctypes::{CType, DefineStop, FieldList, StructTable};
 use floyd_elab_names::{Meaning, Names, Tags};
@@ -16,10 +16,17 @@ use sqlite_items::Items;
 use std::alloc::{AllocError, Global};
 
 /// The names that are in scope, and the structs that were declared.
-#[derive(Drop)]
 pub struct Env {
     names: Names,
     structs: StructTable,
+}
+
+impl Drop for Env {
+    fn drop(self) {
+        let Env { names, structs } = self;
+        drop(names);
+        drop(structs);
+    }
 }
 
 impl Env {
@@ -52,7 +59,7 @@ impl Env {
 
     /// Goes into a scope, which has no names yet.
     pub fn enter(&mut self) -> Result<(), AllocError>
-        ensures ok { OnOk result (self.new.names ≡ entered self.old.names) }
+        ensures ok { OnOk result (self.new.names ≡ enter self.old.names) }
         ensures err { OnErr result (self.new.names ≡ self.old.names) }
         ensures structs { self.new.structs ≡ self.old.structs }
     {
@@ -61,7 +68,7 @@ impl Env {
 
     /// Leaves the innermost scope. Its names stand for what they stood for before.
     pub fn leave(&mut self)
-        ensures names { self.new.names ≡ left self.old.names }
+        ensures names { self.new.names ≡ leave self.old.names }
         ensures structs { self.new.structs ≡ self.old.structs }
     {
         self.names.leave();
@@ -104,6 +111,6 @@ pub fn type_of(alloc: Global, env: &Env, _file: u32, e: &CExpr) -> Result<CType,
         structs: env.structs.share()?,
         completed: Items::new(alloc),
     };
-    let a = typed(alloc, &env.names, &mut tags, e)?;
-    Ok(a.ctype)
+    let a = operand_of(alloc, &env.names, &mut tags, e)?;
+    Ok(a.into_type())
 }

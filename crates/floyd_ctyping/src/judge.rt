@@ -1,7 +1,7 @@
 //! Which operands an operator takes, and the type of its result. None stands where they do not fit.
 ghost use Rattle.std.specs.Prelude.{◌≡◌, IfOk};
 ghost use Rattle.floyd_elab_names.specs.Types.{pointee as pointee_lem};
-ghost use Rattle.floyd_ctyping.specs.Operators.{is_test as is_test_lem, sign_type as sign_type_lem, not_type as not_type_lem, led_to as led_to_lem, dereferenced as dereferenced_lem, address_type as address_type_lem, common_type as common_type_lem, ordered as ordered_lem, order_type as order_type_lem, compared as compared_lem, binary_type as binary_type_lem, element_type as element_type_lem, is_target as is_target_lem, fits_into as fits_into_lem, is_cast as is_cast_lem, is_stepped as is_stepped_lem};
+ghost use Rattle.floyd_ctyping.specs.Operators.{is_test as is_test_lem, sign_type as sign_type_lem, not_type as not_type_lem, unless_void as led_to_lem, dereference_type as dereferenced_lem, address_type as address_type_lem, common_type as common_type_lem, with_order as ordered_lem, order_type as order_type_lem, comparison_type as compared_lem, binary_type as binary_type_lem, element_type as element_type_lem, is_target as is_target_lem, fits_into as fits_into_lem, is_cast as is_cast_lem, is_stepped as is_stepped_lem};
 
 use crate::operand::Operand;
 use crate::operators::{
@@ -40,7 +40,7 @@ pub fn not_type(alloc: Global, a: &Operand) -> Result<Option<CType>, AllocError>
 }
 
 /// The type, but void.
-fn led_to(alloc: Global, t: &CType) -> Result<Option<CType>, AllocError>
+fn unless_void(alloc: Global, t: &CType) -> Result<Option<CType>, AllocError>
     ensures { IfOk result (λ o. o ≡ led_to_lem t.now) }
 {
     if is_void(t) {
@@ -50,12 +50,12 @@ fn led_to(alloc: Global, t: &CType) -> Result<Option<CType>, AllocError>
 }
 
 /// The type of `*a`.
-pub fn dereferenced(alloc: Global, a: &Operand) -> Result<Option<CType>, AllocError>
+pub fn dereference_type(alloc: Global, a: &Operand) -> Result<Option<CType>, AllocError>
     ensures { IfOk result (λ o. o ≡ dereferenced_lem a.now) }
 {
     let t = a.value_type(alloc)?;
     match pointee(&t) {
-        Some(to) => led_to(alloc, to),
+        Some(to) => unless_void(alloc, to),
         None => Ok(None),
     }
 }
@@ -80,7 +80,7 @@ pub fn common_type(alloc: Global, a: &Operand, b: &Operand) -> Result<Option<CTy
 }
 
 /// Functions have no order.
-fn ordered(t: CType) -> Option<CType>
+fn with_order(t: CType) -> Option<CType>
     ensures { result ≡ ordered_lem t }
 {
     if points_to_function(&t) {
@@ -94,13 +94,13 @@ fn order_type(alloc: Global, a: &Operand, b: &Operand) -> Result<Option<CType>, 
     ensures { IfOk result (λ o. o ≡ order_type_lem a.now b.now) }
 {
     match common_type(alloc, a, b)? {
-        Some(t) => Ok(ordered(t)),
+        Some(t) => Ok(with_order(t)),
         None => Ok(None),
     }
 }
 
 /// A comparison has type int.
-fn compared(common: Option<CType>) -> Option<CType>
+fn comparison_type(common: Option<CType>) -> Option<CType>
     ensures { result ≡ compared_lem common }
 {
     match common {
@@ -128,8 +128,10 @@ pub fn binary_type(
             Ok(number_of(&t, &u))
         }
         IntOp::Shl | IntOp::Shr => Ok(shift_of(&t, &u)),
-        IntOp::Eq | IntOp::Ne => Ok(compared(common_type(alloc, a, b)?)),
-        IntOp::Lt | IntOp::Le | IntOp::Gt | IntOp::Ge => { Ok(compared(order_type(alloc, a, b)?)) }
+        IntOp::Eq | IntOp::Ne => Ok(comparison_type(common_type(alloc, a, b)?)),
+        IntOp::Lt | IntOp::Le | IntOp::Gt | IntOp::Ge => {
+            Ok(comparison_type(order_type(alloc, a, b)?))
+        }
     }
 }
 

@@ -1,5 +1,5 @@
 ghost use Rattle.std.specs.Prelude.{◌≡◌};
-ghost use Rattle.floyd_elab_names.specs.Types.{promoted as promoted_lem, rank as rank_lem, usual as usual_lem};
+ghost use Rattle.floyd_elab_names.specs.Types.{promote as promoted_lem, rank as rank_lem, usual as usual_lem};
 
 use floyd_int::IntKind;
 
@@ -8,12 +8,12 @@ use floyd_int::IntKind;
 pub fn usual(a: IntKind, b: IntKind) -> IntKind
     ensures { result ≡ usual_lem a b }
 {
-    let (a, b) = (promoted(a), promoted(b));
+    let (a, b) = (promote(a), promote(b));
     if rank(a) <= rank(b) { b } else { a }
 }
 
 /// Kinds below int become int.
-pub fn promoted(kind: IntKind) -> IntKind
+pub fn promote(kind: IntKind) -> IntKind
     ensures { result ≡ promoted_lem kind }
 {
     match kind {

@@ -2,7 +2,7 @@ ghost use Rattle.std.specs.Prelude.{◌≡◌, IfOk};
 ghost use Rattle.floyd_ctyping.specs.Operators.{value_of_type, object_of_type, is_zero as is_zero_lem, is_object as is_object_lem, is_parameter as is_parameter_lem, value_type as value_type_lem};
 
 use floyd_ctypes::CType;
-use floyd_elab_names::decayed;
+use floyd_elab_names::decay;
 use std::alloc::{AllocError, Global};
 
 /// What an expression may be used for besides its value.
@@ -19,11 +19,18 @@ pub enum Standing {
 }
 
 /// An expression as its operator sees it.
-#[derive(Drop)]
 pub struct Operand {
     /// Its type before arrays and functions become pointers.
     pub ctype: CType,
     pub standing: Standing,
+}
+
+impl Drop for Operand {
+    fn drop(self) {
+        let Operand { ctype, standing } = self;
+        drop(ctype);
+        drop(standing);
+    }
 }
 
 impl Operand {
@@ -45,6 +52,14 @@ impl Operand {
             ctype,
             standing: Standing::Object,
         }
+    }
+
+    /// Its type before arrays and functions become pointers.
+    pub fn into_type(self) -> CType
+        ensures { result ≡ self.ctype }
+    {
+        let Operand { ctype, standing: _ } = self;
+        ctype
     }
 
     /// Whether it is the constant 0.
@@ -81,6 +96,6 @@ impl Operand {
     pub fn value_type(&self, alloc: Global) -> Result<CType, AllocError>
         ensures { IfOk result (λ t. t ≡ value_type_lem self.now) }
     {
-        decayed(alloc, &self.ctype)
+        decay(alloc, &self.ctype)
     }
 }

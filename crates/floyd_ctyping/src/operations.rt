@@ -5,18 +5,18 @@ ghost use Rattle.floyd_text.specs.Gives.{Gives};
 ghost use Rattle.floyd_text.specs.declared.refusal.Halt.TheVariants.{Refused};
 ghost use Rattle.floyd_elab_names.specs.Refusals.{ill_typed as ill_typed_lem};
 ghost use Rattle.floyd_elab_names.specs.declared.tags.Tags.{Tags as Kept};
-ghost use Rattle.floyd_elab_names.specs.Types.{tag_of as tag_of_lem};
-ghost use Rattle.floyd_ctyping.specs.Operators.{struct_before as struct_before_lem, called as called_lem, signature_of, with_count};
-ghost use Rattle.floyd_ctyping.specs.Expressions.{standing_in as standing_in_lem, standing_of as standing_of_lem, named as named_lem, gives_value as gives_value_lem, gives_object as gives_object_lem, address_of as address_of_lem, prefix_operator as prefix_operator_lem, cast_to as cast_to_lem, tested as tested_lem, nested_step as nested_step_lem, nested_assignment as nested_assignment_lem, nested_call as nested_call_lem, member as member_lem};
+ghost use Rattle.floyd_ctyping.specs.Operators.{struct_before as struct_before_lem, callee_signature as called_lem, signature_of, with_count};
+ghost use Rattle.floyd_ctyping.specs.Expressions.{standing_in as standing_in_lem, standing_of as standing_of_lem, name_operand as named_lem, gives_value as gives_value_lem, gives_object as gives_object_lem, address_of as address_of_lem, prefix_operator as prefix_operator_lem, cast_to as cast_to_lem, check_test as tested_lem, nested_step as nested_step_lem, nested_assignment as nested_assignment_lem, nested_call as nested_call_lem, member as member_lem};
 
 use crate::judge::{
-    address_type, dereferenced, is_cast, is_stepped, is_target, is_test, not_type, sign_type,
+    address_type, dereference_type, is_cast, is_stepped, is_target, is_test, not_type, sign_type,
 };
 use crate::operand::{Operand, Standing};
 use floyd_cparse_trees::{Identifier, MemberOp, PrefixOp};
 use floyd_ctypes::CType;
 use floyd_elab_names::{
-    Meaning, Site, Storage, Tags, bad_cast, ill_typed, left_out, nested_effect, pointee, undeclared,
+    Meaning, Site, Storage, Tags, bad_cast, ill_typed, left_out, nested_effect, pointee, tag_of,
+    undeclared,
 };
 use floyd_text::{Halt, Name, Place};
 use std::alloc::{AllocError, Global};
@@ -49,7 +49,11 @@ pub fn standing_of(n: u64) -> Standing
 }
 
 /// What a name is as an operand.
-pub fn named(alloc: Global, i: &Identifier, meaning: Option<&Meaning>) -> Result<Operand, Halt>
+pub fn name_operand(
+    alloc: Global,
+    i: &Identifier,
+    meaning: Option<&Meaning>,
+) -> Result<Operand, Halt>
     ensures exact { (tags : Kept) → Gives (λ a. (a, tags)) result (named_lem i.now (option_copied meaning.entry) tags) }
 {
     match meaning {
@@ -106,7 +110,7 @@ pub fn prefix_operator(
             gives_value(place, sign_type(alloc, a)?)
         }
         PrefixOp::Not => gives_value(place, not_type(alloc, a)?),
-        PrefixOp::Dereference => gives_object(place, dereferenced(alloc, a)?),
+        PrefixOp::Dereference => gives_object(place, dereference_type(alloc, a)?),
         PrefixOp::Address => address_of(alloc, place, a),
     }
 }
@@ -122,7 +126,7 @@ pub fn cast_to(alloc: Global, place: Place, t: &CType, a: &Operand) -> Result<Op
 }
 
 /// A test, directly behind it.
-pub fn tested(alloc: Global, place: Place, a: &Operand) -> Result<(), Halt>
+pub fn check_test(alloc: Global, place: Place, a: &Operand) -> Result<(), Halt>
     ensures exact { (tags : Kept) → Gives (λ r. (r, tags)) result (tested_lem place a.now tags) }
 {
     if !is_test(alloc, a)? {
@@ -151,29 +155,29 @@ pub fn nested_assignment(place: Place, a: &Operand) -> Result<Operand, Halt>
     Err(Halt::Refused(nested_effect(place)))
 }
 
+/// The same name, shared.
+fn shared(tag: Option<&Name>) -> Result<Option<Name>, AllocError>
+    ensures { IfOk result (λ o. o ≡ option_copied tag.entry) }
+{
+    match tag {
+        Some(tag) => Ok(Some(tag.share()?)),
+        None => Ok(None),
+    }
+}
+
 /// The tag of the struct that `.` or `->` takes a field of.
 fn struct_before(alloc: Global, op: MemberOp, a: &Operand) -> Result<Option<Name>, AllocError>
     ensures { IfOk result (λ o. o ≡ struct_before_lem op a.now) }
 {
     match op {
-        MemberOp::Dot => shared_tag(&a.ctype),
+        MemberOp::Dot => shared(tag_of(&a.ctype)),
         MemberOp::Arrow => {
             let t = a.value_type(alloc)?;
             match pointee(&t) {
-                Some(to) => shared_tag(to),
+                Some(to) => shared(tag_of(to)),
                 None => Ok(None),
             }
         }
-    }
-}
-
-/// The tag of a struct.
-fn shared_tag(t: &CType) -> Result<Option<Name>, AllocError>
-    ensures { IfOk result (λ o. o ≡ tag_of_lem t.now) }
-{
-    match t {
-        CType::Struct(tag) => Ok(Some(tag.share()?)),
-        _ => Ok(None),
     }
 }
 

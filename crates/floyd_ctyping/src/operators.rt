@@ -2,7 +2,7 @@ ghost use Rattle.std.specs.Prelude.{◌≡◌, IfOk, Some, None};
 ghost use Rattle.floyd_elab_names.specs.Types.{pointer_to as pointer_to_lem};
 ghost use Rattle.floyd_ctyping.specs.Operators.{when, promoted_type as promoted_type_lem, number_of as number_of_lem, shift_of as shift_of_lem, pointer_plus as pointer_plus_lem, number_plus as number_plus_lem, sum_of as sum_of_lem, difference_of as difference_of_lem, number_beside as number_beside_lem, pointer_beside as pointer_beside_lem, common_of as common_of_lem, joins as joins_lem, is_number as is_number_lem, becomes_pointer as becomes_pointer_lem, converts_to as converts_to_lem, casts_to_pointer as casts_to_pointer_lem, casts_to as casts_to_lem, points_to_function as points_to_function_lem};
 
-use crate::kinds::{promoted, usual};
+use crate::kinds::{promote, usual};
 use floyd_ctypes::{CType, StructTable};
 use floyd_elab_names::{has_size, is_function, is_void, pointer_to, same_type};
 use floyd_int::IntKind;
@@ -23,7 +23,7 @@ pub(crate) fn promoted_type(t: &CType) -> Option<CType>
     ensures { result ≡ promoted_type_lem t.now }
 {
     match t {
-        CType::Int(kind) => Some(CType::Int(promoted(*kind))),
+        CType::Int(kind) => Some(CType::Int(promote(*kind))),
         _ => None,
     }
 }
@@ -43,7 +43,7 @@ pub(crate) fn shift_of(t: &CType, u: &CType) -> Option<CType>
     ensures { result ≡ shift_of_lem t.now u.now }
 {
     match (t, u) {
-        (CType::Int(j), CType::Int(_)) => Some(CType::Int(promoted(*j))),
+        (CType::Int(j), CType::Int(_)) => Some(CType::Int(promote(*j))),
         _ => None,
     }
 }

@@ -13,14 +13,14 @@ use Rattle.floyd_clight.specs.declared.syntax.Stmt.{Stmt}
 use Rattle.floyd_clight.specs.declared.unit.Local.{Local}
 use Rattle.floyd_elab_names.specs.declared.tags.Tags.{Tags}
 use Rattle.floyd_elab_names.specs.Scopes.{Scope, Scopes}
-use Rattle.floyd_elab_expressions.specs.Behind.{appended}
+use Rattle.floyd_elab_expressions.specs.Behind.{put_behind}
 use Rattle.floyd_elab_expressions.specs.declared.progress.Progress.{Progress}
 use Rattle.floyd_elab_statements.specs.Statements.{body}
 use Rattle.floyd_elab.specs.declared.file.File.{File}
-use Rattle.floyd_elab.specs.Units.{parameter_scope, starting, definition, with_body, bodied}
+use Rattle.floyd_elab.specs.Units.{parameter_scope, starting, definition, with_body, define_body}
 use Rattle.floyd_elab.specs.Files.{top, define_function}
-use Rattle.floyd_elab.specs.Parts.{without_names, without_tags}
-use Rattle.floyd_elab.specs.Tables.{innermost, with_parameter}
+use Rattle.floyd_elab.specs.UnitClauses.{without_names, without_tags}
+use Rattle.floyd_elab.specs.TableClauses.{innermost, with_parameter}
 
 -- with more names in the innermost scope
 abbrev pub widened : Scopes → Scope → Scopes
@@ -50,15 +50,15 @@ last_wider scopes all i whole past held =
 
 -- statements behind none
 module _ {S : Type 0} where
-  pub behind_none : (r : Result (List Stmt × S) Refusal) (x : List Stmt × S) → appended [] r ≡ Ok x → r ≡ Ok x
+  pub behind_none : (r : Result (List Stmt × S) Refusal) (x : List Stmt × S) → put_behind [] r ≡ Ok x → r ≡ Ok x
   behind_none (Ok r) x e = e
   behind_none (Err refusal) x e = cc
 
-  pub refused_behind_none : (r : Result (List Stmt × S) Refusal) (refusal : Refusal) → appended [] r ≡ Err refusal → r ≡ Err refusal
+  pub refused_behind_none : (r : Result (List Stmt × S) Refusal) (refusal : Refusal) → put_behind [] r ≡ Err refusal → r ≡ Err refusal
   refused_behind_none (Ok r) refusal e = cc
   refused_behind_none (Err other) refusal e = e
 
-  pub stops_behind_none : (r : Result (List Stmt × S) Refusal) (halt : Halt) → Stops halt (appended [] r) → Stops halt r
+  pub stops_behind_none : (r : Result (List Stmt × S) Refusal) (halt : Halt) → Stops halt (put_behind [] r) → Stops halt r
   stops_behind_none r Memory e = tt
   stops_behind_none r (Refused refusal) e = refused_behind_none r refusal e
 
@@ -67,13 +67,13 @@ module _ (i : Identifier) (result : CType) (parameters lent : List Local) (same 
   abbrev body_with : List Local → Result (List Stmt × Progress) Refusal
   body_with ps = body result (parameter_scope ps ∷ top file) block (starting file.tags ps)
 
-  pub bodied_stops : (halt : Halt) → Stops halt (body_with lent) → Stops halt (bodied i result parameters block file)
+  pub bodied_stops : (halt : Halt) → Stops halt (body_with lent) → Stops halt (define_body i result parameters block file)
   bodied_stops Memory e = tt
   bodied_stops (Refused refusal) e = ap (with_body i result parameters file) (sym (ap body_with same) ∙ e)
 
   pub bodied_gives : (statements : List Stmt) (after : Progress) (bare now : File) → body_with lent ≡ Ok (statements, after) → bare ≡ without_tags file
       → now ≡ define_function (definition i result parameters statements after) (record bare { tags = after.tags })
-      → bodied i result parameters block file ≡ Ok (tt, now)
+      → define_body i result parameters block file ≡ Ok (tt, now)
   bodied_gives statements after bare now e is put =
       ap (with_body i result parameters file) (sym (ap body_with same) ∙ e)
       ∙ sym (ap (λ (f : File). Ok (tt, f)) (put ∙ ap (λ (f : File). define_function (definition i result parameters statements after) (record f { tags = after.tags })) is))
@@ -82,15 +82,15 @@ module _ (i : Identifier) (result : CType) (parameters lent : List Local) (same 
 pub one_again : (names now : Scopes) (scope : Scope) → names ≡ scope ∷ [] → now ≡ names → now ≡ innermost now ∷ []
 one_again names now scope opened same = let is : now ≡ scope ∷ [] = same ∙ opened in is ∙ sym (ap (λ (s : Scopes). innermost s ∷ []) is)
 
-module _ (file named bare : File) (names now : Scopes) (opened : names ≡ top file) (same : now ≡ names) where
-  pub scope_again : (scope : Scope) → named ≡ without_names file → bare ≡ without_tags named → scope ≡ innermost now → record bare { scope = scope } ≡ without_tags file
+module _ (file declarator_name bare : File) (names now : Scopes) (opened : names ≡ top file) (same : now ≡ names) where
+  pub scope_again : (scope : Scope) → declarator_name ≡ without_names file → bare ≡ without_tags declarator_name → scope ≡ innermost now → record bare { scope = scope } ≡ without_tags file
   scope_again scope taken taken_too is =
       ap (λ (f : File). record f { scope = scope }) (taken_too ∙ ap without_tags taken)
       ∙ ap (λ (s : Scope). record (without_tags file) { scope = s }) (is ∙ ap innermost (same ∙ opened))
 
 -- a body in the scopes and with the structs that were taken out of the file
-module _ (result : CType) (parameters : List Local) (block : CStatement) (file named : File) (names : Scopes) (tags : Tags)
-    (opened : names ≡ top file) (taken : named ≡ without_names file) (begun : tags ≡ named.tags) where
+module _ (result : CType) (parameters : List Local) (block : CStatement) (file declarator_name : File) (names : Scopes) (tags : Tags)
+    (opened : names ≡ top file) (taken : declarator_name ≡ without_names file) (begun : tags ≡ declarator_name.tags) where
   abbrev body_from : Scopes → Tags → Result (List Stmt × Progress) Refusal
   body_from scopes tags = body result (parameter_scope parameters ∷ scopes) block (starting tags parameters)
 

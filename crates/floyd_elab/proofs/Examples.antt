@@ -27,13 +27,14 @@ use Rattle.floyd_elab_names.specs.declared.meaning.Storage.TheVariants as kept
 use Rattle.floyd_elab_names.specs.Refusals.{ill_typed, nested_effect, undeclared}
 use Rattle.floyd_elab_names.specs.Scopes.{Scopes}
 use Rattle.floyd_elab_names.specs.Types.{int_type, pointer_to}
+use Rattle.floyd_clight.specs.declared.syntax.Binding.TheVariants as bound
 use Rattle.floyd_clight.specs.declared.syntax.Expr.{Expr, Temp, Var}
 use Rattle.floyd_clight.specs.declared.syntax.Stmt.{Stmt, Set, Assign, If, Loop, Skip, Break, Seq, Return}
 use Rattle.floyd_elab_expressions.specs.Clight.{pulled_name, kth_name, deref_of, address_of, binary_of, zero, one}
 use Rattle.floyd_elab_expressions.specs.declared.progress.Progress.{Progress}
 use Rattle.floyd_elab_effects.specs.Effects.{effect}
 use Rattle.floyd_elab_statements.specs.Statements.{statement}
-use Rattle.floyd_elab.specs.Units.{elaborated, starting}
+use Rattle.floyd_elab.specs.Units.{elaboration, starting}
 
 abbrev ident : List ℕ → ℕ → Identifier
 ident x n = record { name = x; place = record { file = 1; line = 1; column = n } }
@@ -78,10 +79,10 @@ abbrev t : ℕ → Expr
 t k = Temp (pulled_name k) int_type
 
 abbrev g : Expr
-g = Var (codes "g") int_type
+g = Var bound.File (codes "g") int_type
 
 abbrev h : Expr
-h = Var (codes "h") int_type
+h = Var bound.File (codes "h") int_type
 
 abbrev not_zero : Expr → Expr
 not_zero e = binary_of op.Ne e zero int_type
@@ -134,8 +135,8 @@ int_words = record { constant = None; base = b.Int I32 }
 abbrev void_words : Specifiers
 void_words = record { constant = None; base = b.Void }
 
-abbrev named : List ℕ → ℕ → d.Declarator
-named x n = d.Name (ident x n)
+abbrev declarator_name : List ℕ → ℕ → d.Declarator
+declarator_name x n = d.Name (ident x n)
 
 abbrev no_parameters : d.Declarator → d.Declarator
 no_parameters inner = d.Function' tt (d.more_of-Declarator inner d.end_of-Declarator) (place 9) [] d.end_of-Parameter
@@ -144,14 +145,14 @@ abbrev declares : d.Declarator → InitDeclarator
 declares d = record { declarator = d; initialiser = None }
 
 -- int f; int f(void x);
-void_parameter : elaborated (record {
+void_parameter : elaboration (record {
   externals =
-      external.Declaration (record { external = false; specifiers = int_words; declarators = declares (named (codes "f") 5) ∷ [] })
+      external.Declaration (record { external = false; specifiers = int_words; declarators = declares (declarator_name (codes "f") 5) ∷ [] })
       ∷ external.Declaration (record {
         external = false;
         specifiers = int_words;
         declarators =
-            declares (d.Function' tt (d.more_of-Declarator (named (codes "f") 12) d.end_of-Declarator) (place 13) (tt ∷ []) (d.more_of-Parameter None b.Void (named (codes "x") 19) d.end_of-Parameter)) ∷ [];
+            declares (d.Function' tt (d.more_of-Declarator (declarator_name (codes "f") 12) d.end_of-Declarator) (place 13) (tt ∷ []) (d.more_of-Parameter None b.Void (declarator_name (codes "x") 19) d.end_of-Parameter)) ∷ [];
       })
       ∷ [];
 })
@@ -159,10 +160,10 @@ void_parameter : elaborated (record {
 void_parameter = refl
 
 -- int f; int f(void);
-another_type : elaborated (record {
+another_type : elaboration (record {
   externals =
-      external.Declaration (record { external = false; specifiers = int_words; declarators = declares (named (codes "f") 5) ∷ [] })
-      ∷ external.Declaration (record { external = false; specifiers = int_words; declarators = declares (no_parameters (named (codes "f") 12)) ∷ [] })
+      external.Declaration (record { external = false; specifiers = int_words; declarators = declares (declarator_name (codes "f") 5) ∷ [] })
+      ∷ external.Declaration (record { external = false; specifiers = int_words; declarators = declares (no_parameters (declarator_name (codes "f") 12)) ∷ [] })
       ∷ [];
 })
     ≡ Err (redeclared (ident (codes "f") 12))
@@ -170,9 +171,9 @@ unfolding shape-the_row-CType-0 hidden-the_row-CType-0 shape-the_row-CType-1 hid
 another_type = refl
 
 -- const int x;
-constant_variable : elaborated (record {
+constant_variable : elaboration (record {
   externals =
-      external.Declaration (record { external = false; specifiers = record { constant = Some (place 1); base = b.Int I32 }; declarators = declares (named (codes "x") 11) ∷ [] }) ∷ [];
+      external.Declaration (record { external = false; specifiers = record { constant = Some (place 1); base = b.Int I32 }; declarators = declares (declarator_name (codes "x") 11) ∷ [] }) ∷ [];
 })
     ≡ Err (left_out (record { place = place 1; text = codes "const" }))
 constant_variable = refl
@@ -190,18 +191,18 @@ abbrev does : e.CExpr → i.BlockItem
 does e = i.Statement (c.Effect e)
 
 abbrev pointer_named : List ℕ → d.Declarator
-pointer_named x = d.Pointer' (record { place = place 30; constant = None } ∷ []) tt (d.more_of-Declarator (named x 31) d.end_of-Declarator)
+pointer_named x = d.Pointer' (record { place = place 30; constant = None } ∷ []) tt (d.more_of-Declarator (declarator_name x 31) d.end_of-Declarator)
 
 -- int main(void) { int x; int *p; p = &x; *p = 1; { int x; x = 1; } return x; }
-memory : elaborated (record {
+memory : elaboration (record {
   externals =
       external.Function (record {
         specifiers = int_words;
-        declarator = no_parameters (named (codes "main") 5);
+        declarator = no_parameters (declarator_name (codes "main") 5);
         body =
-            local (named (codes "x") 22) ∷ local (pointer_named (codes "p"))
+            local (declarator_name (codes "x") 22) ∷ local (pointer_named (codes "p"))
             ∷ does (assign (var (codes "p")) (address (var (codes "x")))) ∷ does (assign (content (var (codes "p"))) one_literal)
-            ∷ i.Statement (c.Block' (tt ∷ tt ∷ []) (c.more_of-BlockItem (local (named (codes "x") 40)) (c.more_of-BlockItem (does (assign (var (codes "x")) one_literal)) c.end_of-BlockItem)))
+            ∷ i.Statement (c.Block' (tt ∷ tt ∷ []) (c.more_of-BlockItem (local (declarator_name (codes "x") 40)) (c.more_of-BlockItem (does (assign (var (codes "x")) one_literal)) c.end_of-BlockItem)))
             ∷ i.Statement (c.Return (place 50) (Some (var (codes "x")))) ∷ [];
       })
       ∷ [];
@@ -218,10 +219,10 @@ memory : elaborated (record {
         blocks = record { name = codes "x"; ctype = int_type } ∷ [];
         temporaries = record { name = codes "p"; ctype = pointer_to int_type } ∷ record { name = kth_name (codes "x") 2; ctype = int_type } ∷ record { name = pulled_name 1; ctype = int_type } ∷ [];
         body = Seq (
-            Set (codes "p") (address_of (Var (codes "x") int_type) (pointer_to int_type))
+            Set (codes "p") (address_of (Var bound.Block (codes "x") int_type) (pointer_to int_type))
             ∷ Assign (deref_of (Temp (codes "p") (pointer_to int_type)) int_type) one
             ∷ Set (kth_name (codes "x") 2) one
-            ∷ Set (pulled_name 1) (Var (codes "x") int_type)
+            ∷ Set (pulled_name 1) (Var bound.Block (codes "x") int_type)
             ∷ Return (Some (Temp (pulled_name 1) int_type)) ∷ []);
       } ∷ [];
     })

@@ -1,31 +1,31 @@
 -- What comes behind another thing.
-use Rattle.std.proofs.Common.{◌≡◌, Bool, true, false, Result, Ok, Err, IsErrAnd, refl, ap, sym, subst, ◌∙◌}
+use Rattle.std.proofs.Common.{◌≡◌, Result, Ok, Err, IsErrAnd, ap, sym, subst, ◌∙◌}
 use Rattle.std.proofs.lemmas.Result.{err_from_is_err_and}
 use Rattle.floyd_text.specs.declared.refusal.Halt.{Halt}
 use Rattle.floyd_text.specs.declared.refusal.Halt.TheVariants.{Refused, Memory}
 use Rattle.floyd_text.specs.declared.refusal.Refusal.{Refusal}
 use Rattle.floyd_text.specs.Gives.{Stops, Gives}
 use Rattle.floyd_elab_names.specs.declared.tags.Tags.{Tags}
-use Rattle.floyd_elab_names.specs.Doing.{Doing, followed, ◌>>=◌, ◌>>◌, unless, of_kept, GivesWith}
+use Rattle.floyd_elab_names.specs.Refusing.{Refusing, and_then, GivesWith}
 use Rattle.floyd_elab.specs.declared.file.File.{File}
 use Rattle.floyd_elab.specs.Files.{with_tags}
 
-module _ {S A B : Type 0} (k : A → Doing S B) where
+module _ {S A B : Type 0} (k : A → Refusing S B) where
   -- what stops the first stops all
-  pub behind_stops : (r : Result (A × S) Refusal) (halt : Halt) → Stops halt r → Stops halt (followed r k)
+  pub behind_stops : (r : Result (A × S) Refusal) (halt : Halt) → Stops halt r → Stops halt (and_then r k)
   behind_stops r Memory e = tt
-  behind_stops r (Refused refusal) e = ap (λ (q : Result (A × S) Refusal). followed q k) e
+  behind_stops r (Refused refusal) e = ap (λ (q : Result (A × S) Refusal). and_then q k) e
 
-  pub behind : (r : Result (A × S) Refusal) (a : A) (s : S) → r ≡ Ok (a, s) → followed r k ≡ k a s
-  behind r a s e = ap (λ (q : Result (A × S) Refusal). followed q k) e
+  pub behind : (r : Result (A × S) Refusal) (a : A) (s : S) → r ≡ Ok (a, s) → and_then r k ≡ k a s
+  behind r a s e = ap (λ (q : Result (A × S) Refusal). and_then q k) e
 
   -- what stops the second stops all
-  pub behind_stops_at : (r : Result (A × S) Refusal) (a : A) (s : S) (halt : Halt) → r ≡ Ok (a, s) → Stops halt (k a s) → Stops halt (followed r k)
+  pub behind_stops_at : (r : Result (A × S) Refusal) (a : A) (s : S) (halt : Halt) → r ≡ Ok (a, s) → Stops halt (k a s) → Stops halt (and_then r k)
   behind_stops_at r a s halt e stops = subst (λ (q : Result (B × S) Refusal). Stops halt q) (sym (behind r a s e)) stops
 
   -- what the second gives
   pub behind_gives : {X : Type 0} (view : X → B) (r : Result (A × S) Refusal) (a : A) (s now : S) (answer : Result X Halt) → r ≡ Ok (a, s)
-      → GivesWith view answer now (k a s) → GivesWith view answer now (followed r k)
+      → GivesWith view answer now (k a s) → GivesWith view answer now (and_then r k)
   behind_gives view r a s now answer e given = subst (λ (q : Result (B × S) Refusal). GivesWith view answer now q) (sym (behind r a s e)) given
 
 -- an answer that is what stopped a call
@@ -46,40 +46,3 @@ pub typing_gives : {A : Type 0} (file : File) (answer : Result A Halt) (tags : T
 typing_gives file (Ok a) tags r e = ap (with_tags file) e
 typing_gives file (Err Memory) tags r e = tt
 typing_gives file (Err (Refused refusal)) tags r e = ap (with_tags file) e
-
--- two tests
-abbrev pub tests : {S : Type 0} → Refusal → Refusal → (S → Bool) → Bool → Doing S (Unit {0})
-tests {S} p q b a = unless p a >> (of_kept (λ (s : S). s) >>= (λ (s : S). unless q (b s)))
-
-module _ {S : Type 0} (p q : Refusal) (b : S → Bool) (s : S) where
-  -- the first test fails, the second one, or both hold
-  pub first_fails : (a : Bool) → a ≡ false → tests p q b a s ≡ Err p
-  first_fails a e = ap (λ (x : Bool). tests p q b x s) e
-
-  pub second_fails : (a : Bool) → a ≡ true → b s ≡ false → tests p q b a s ≡ Err q
-  second_fails a e f = ap (λ (x : Bool). tests p q b x s) e ∙ ap (λ (y : Bool). unless q y s) f
-
-  pub both_hold : (a : Bool) → a ≡ true → b s ≡ true → tests p q b a s ≡ Ok (tt, s)
-  both_hold a e f = ap (λ (x : Bool). tests p q b x s) e ∙ ap (λ (y : Bool). unless q y s) f
-
--- two tests before the rest
-module _ {S C : Type 0} (p q : Refusal) (b : S → Bool) (rest : S → Doing S C) (s : S) where
-  abbrev behind_tests : Bool → Doing S C
-  behind_tests a = unless p a >> (of_kept (λ (s : S). s) >>= (λ (s : S). unless q (b s) >> rest s))
-
-  second : (y : Bool) → unless q y s ≡ Ok (tt, s) → followed (unless q y s) (λ _. rest s) ≡ rest s s
-  second true e = refl
-  second false e = cc
-
-  pub behind_both : (a : Bool) → tests p q b a s ≡ Ok (tt, s) → behind_tests a s ≡ rest s s
-  behind_both true e = second (b s) e
-  behind_both false e = cc
-
-  second_stops : (y : Bool) (refusal : Refusal) → unless q y s ≡ Err refusal → followed (unless q y s) (λ _. rest s) ≡ Err refusal
-  second_stops true refusal e = cc
-  second_stops false refusal e = let same : q ≡ refusal = cc in ap (λ (x : Refusal). Err x) same
-
-  pub tests_stop : (a : Bool) (halt : Halt) → Stops halt (tests p q b a s) → Stops halt (behind_tests a s)
-  tests_stop a Memory e = tt
-  tests_stop true (Refused refusal) e = second_stops (b s) refusal e
-  tests_stop false (Refused refusal) e = let same : p ≡ refusal = cc in ap (λ (x : Refusal). Err x) same

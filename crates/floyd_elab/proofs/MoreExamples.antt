@@ -20,6 +20,7 @@ use Rattle.floyd_elab_names.specs.Scopes.{Scopes}
 use Rattle.floyd_elab_names.specs.Types.{int_type, pointer_to, array_of}
 use Rattle.floyd_clight.specs.declared.initial.Initial as initial
 use Rattle.floyd_clight.specs.declared.initial.Initial.{Initial}
+use Rattle.floyd_clight.specs.declared.syntax.Binding.TheVariants as bound
 use Rattle.floyd_clight.specs.declared.syntax.Expr.{Expr, Temp, Var}
 use Rattle.floyd_clight.specs.declared.syntax.Stmt.{Stmt, Set, Call}
 use Rattle.floyd_elab_expressions.specs.Clight.{pulled_name, deref_of, binary_of, cast_of, field_of, zero}
@@ -91,7 +92,7 @@ q = Temp (codes "q") (pointer_to (Struct (codes "s")))
 
 -- x = f(x);
 call_with_casts : statements (effect scopes (assign (var (codes "x")) (call (var (codes "f")) (var (codes "x")))) start)
-    ≡ Ok (Call (Some (pulled_name 1)) (Var (codes "f") (function_type long long)) (cast_of x long ∷ [])
+    ≡ Ok (Call (Some (pulled_name 1)) (Var bound.File (codes "f") (function_type long long)) (cast_of x long ∷ [])
     ∷ Set (codes "x") (cast_of (Temp (pulled_name 1) long) int_type) ∷ [])
 call_with_casts = refl
 
@@ -114,7 +115,7 @@ null_pointer : statements (effect scopes (assign (var (codes "x")) (bin (binary.
 null_pointer = refl
 
 -- p = a;
-array_value : statements (effect scopes (assign (var (codes "p")) (var (codes "a"))) start) ≡ Ok (Set (codes "p") (Var (codes "a") (array_of int_type 2)) ∷ [])
+array_value : statements (effect scopes (assign (var (codes "p")) (var (codes "a"))) start) ≡ Ok (Set (codes "p") (Var bound.File (codes "a") (array_of int_type 2)) ∷ [])
 array_value = refl
 
 -- p = q;

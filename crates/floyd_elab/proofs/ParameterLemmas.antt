@@ -19,8 +19,8 @@ use Rattle.floyd_clight.specs.declared.unit.Local.{Local}
 use Rattle.floyd_ctyping.specs.Operators.{signature_of}
 use Rattle.floyd_elab_names.specs.Declarators.{name_of, is_bare}
 use Rattle.floyd_elab.specs.Files.{declaration_of}
-use Rattle.floyd_elab.specs.Units.{parameter_names, own_parameters, paired, parameters_of, result_of}
-use Rattle.floyd_elab.specs.Parts.{names_of, local_of, with_function}
+use Rattle.floyd_elab.specs.Units.{parameter_names, own_parameters, pair, parameters_of, result_of}
+use Rattle.floyd_elab.specs.UnitClauses.{names_of, local_of, with_function}
 
 -- The types of a function.
 
@@ -64,40 +64,40 @@ drop_none [] (suc k) e = refl
 drop_none (t ∷ ts) zero e = cc
 drop_none (t ∷ ts) (suc k) e = drop_none ts k e
 
-pub paired_none : (names : List (Option Identifier)) → paired names [] ≡ []
+pub paired_none : (names : List (Option Identifier)) → pair names [] ≡ []
 paired_none [] = refl
 paired_none (None ∷ names) = refl
 paired_none (Some i ∷ names) = refl
 
 pub paired_some : (name : Option Identifier) (names : List (Option Identifier)) (ts : List CType) (k : ℕ) (l : Local) → local_of name (slice_get ts k) ≡ Some l
-    → paired (name ∷ names) (drop k ts) ≡ l ∷ paired names (drop (k + 1) ts)
+    → pair (name ∷ names) (drop k ts) ≡ l ∷ pair names (drop (k + 1) ts)
 paired_some None names ts k l e = cc
 paired_some (Some i) names ts k l e = by (slice_get ts k) refl e
   where
-    by : (o : Option CType) → slice_get ts k ≡ o → local_of (Some i) o ≡ Some l → paired (Some i ∷ names) (drop k ts) ≡ l ∷ paired names (drop (k + 1) ts)
+    by : (o : Option CType) → slice_get ts k ≡ o → local_of (Some i) o ≡ Some l → pair (Some i ∷ names) (drop k ts) ≡ l ∷ pair names (drop (k + 1) ts)
     by None there e = cc
-    by (Some t) there e = ap (paired (Some i ∷ names)) (drop_some ts k t there) ∙ ap (λ (m : Local). m ∷ paired names (drop (k + 1) ts)) (let same : record { name = i.name; ctype = t } ≡ l = cc in same)
+    by (Some t) there e = ap (pair (Some i ∷ names)) (drop_some ts k t there) ∙ ap (λ (m : Local). m ∷ pair names (drop (k + 1) ts)) (let same : record { name = i.name; ctype = t } ≡ l = cc in same)
 
-pub paired_end : (name : Option Identifier) (names : List (Option Identifier)) (ts : List CType) (k : ℕ) → local_of name (slice_get ts k) ≡ None → paired (name ∷ names) (drop k ts) ≡ []
+pub paired_end : (name : Option Identifier) (names : List (Option Identifier)) (ts : List CType) (k : ℕ) → local_of name (slice_get ts k) ≡ None → pair (name ∷ names) (drop k ts) ≡ []
 paired_end None names ts k e = refl
 paired_end (Some i) names ts k e = by (slice_get ts k) refl e
   where
-    by : (o : Option CType) → slice_get ts k ≡ o → local_of (Some i) o ≡ None → paired (Some i ∷ names) (drop k ts) ≡ []
-    by None there e = ap (paired (Some i ∷ names)) (drop_none ts k there)
+    by : (o : Option CType) → slice_get ts k ≡ o → local_of (Some i) o ≡ None → pair (Some i ∷ names) (drop k ts) ≡ []
+    by None there e = ap (pair (Some i ∷ names)) (drop_none ts k there)
     by (Some t) there e = cc
 
 -- of the parameters from one on
 pub names_from : (ps : List Parameter) (k : ℕ) (p : Parameter) → k < length ps → p ≡ get_or ps k p → names_of (drop k ps) ≡ name_of p.declarator ∷ names_of (drop (k + 1) ps)
 names_from ps k p within is = ap names_of (drop_more ps k p within) ∙ ap (λ (q : Parameter). name_of q.declarator ∷ names_of (drop (k + 1) ps)) (sym is)
 
-module _ (ps : List Parameter) (ts : List CType) (k : ℕ) (locals whole : List Local) (held : locals ++ paired (names_of (drop k ps)) (drop k ts) ≡ whole) where
+module _ (ps : List Parameter) (ts : List CType) (k : ℕ) (locals whole : List Local) (held : locals ++ pair (names_of (drop k ps)) (drop k ts) ≡ whole) where
   pub next_paired : (p : Parameter) (l : Local) (now : List Local) → k < length ps → p ≡ get_or ps k p → Some l ≡ local_of (name_of p.declarator) (slice_get ts k) → now ≡ locals ++ l ∷ []
-      → now ++ paired (names_of (drop (k + 1) ps)) (drop (k + 1) ts) ≡ whole
+      → now ++ pair (names_of (drop (k + 1) ps)) (drop (k + 1) ts) ≡ whole
   next_paired p l now within is found put =
-      ap (λ (ls : List Local). ls ++ paired (names_of (drop (k + 1) ps)) (drop (k + 1) ts)) put
-      ∙ append_assoc locals (l ∷ []) (paired (names_of (drop (k + 1) ps)) (drop (k + 1) ts))
+      ap (λ (ls : List Local). ls ++ pair (names_of (drop (k + 1) ps)) (drop (k + 1) ts)) put
+      ∙ append_assoc locals (l ∷ []) (pair (names_of (drop (k + 1) ps)) (drop (k + 1) ts))
       ∙ sym (ap (λ (ls : List Local). locals ++ ls)
-      (ap (λ (ns : List (Option Identifier)). paired ns (drop k ts)) (names_from ps k p within is)
+      (ap (λ (ns : List (Option Identifier)). pair ns (drop k ts)) (names_from ps k p within is)
       ∙ paired_some (name_of p.declarator) (names_of (drop (k + 1) ps)) ts k l (sym found)))
       ∙ held
 
@@ -105,14 +105,14 @@ module _ (ps : List Parameter) (ts : List CType) (k : ℕ) (locals whole : List 
   end_paired p within is found =
       sym (append-nil locals)
       ∙ sym (ap (λ (ls : List Local). locals ++ ls)
-      (ap (λ (ns : List (Option Identifier)). paired ns (drop k ts)) (names_from ps k p within is)
+      (ap (λ (ns : List (Option Identifier)). pair ns (drop k ts)) (names_from ps k p within is)
       ∙ paired_end (name_of p.declarator) (names_of (drop (k + 1) ps)) ts k (sym found)))
       ∙ held
 
   pub all_paired : length ps ≤ k → locals ≡ whole
   all_paired past =
       sym (append-nil locals)
-      ∙ sym (ap (λ (qs : List Parameter). locals ++ paired (names_of qs) (drop k ts)) (drop_of_length-le ps past))
+      ∙ sym (ap (λ (qs : List Parameter). locals ++ pair (names_of qs) (drop k ts)) (drop_of_length-le ps past))
       ∙ held
 
 -- What a function's type says.
@@ -120,19 +120,19 @@ module _ (ps : List Parameter) (ts : List CType) (k : ℕ) (locals whole : List 
 pub result_of_function : (ps : List CType) (r : CType) → result_of (Function ps r) ≡ r
 result_of_function ps r = ap (λ (s : Option (List CType × CType)). (unwrap_or s ([], Void)).1) (signature_of_function ps r)
 
-pub parameters_of_function : (d : d.Declarator) (ps : List CType) (r : CType) → parameters_of d (Function ps r) ≡ paired (unwrap_or (own_parameters d) []) ps
-parameters_of_function d ps r = ap (λ (s : Option (List CType × CType)). paired (unwrap_or (own_parameters d) []) (unwrap_or s ([], Void)).0) (signature_of_function ps r)
+pub parameters_of_function : (d : d.Declarator) (ps : List CType) (r : CType) → parameters_of d (Function ps r) ≡ pair (unwrap_or (own_parameters d) []) ps
+parameters_of_function d ps r = ap (λ (s : Option (List CType × CType)). pair (unwrap_or (own_parameters d) []) (unwrap_or s ([], Void)).0) (signature_of_function ps r)
 
 pub no_parameters : (d : d.Declarator) (t : CType) → signature_of t ≡ None → [] ≡ parameters_of d t
 no_parameters d t none =
-    sym (ap (λ (s : Option (List CType × CType)). paired (unwrap_or (own_parameters d) []) (unwrap_or s ([], Void)).0) none ∙ paired_none (unwrap_or (own_parameters d) []))
+    sym (ap (λ (s : Option (List CType × CType)). pair (unwrap_or (own_parameters d) []) (unwrap_or s ([], Void)).0) none ∙ paired_none (unwrap_or (own_parameters d) []))
 
 pub parameters_of_own : (d : d.Declarator) (t : CType) (ps : List CType) (r : CType) (own : List Parameter) → t ≡ Function ps r → Some (names_of own) ≡ own_parameters d
-    → paired (names_of own) ps ≡ parameters_of d t
+    → pair (names_of own) ps ≡ parameters_of d t
 parameters_of_own d t ps r own is has =
     sym (ap (λ (u : CType). parameters_of d u) is
     ∙ parameters_of_function d ps r
-    ∙ ap (λ (o : Option (List (Option Identifier))). paired (unwrap_or o []) ps) (sym has))
+    ∙ ap (λ (o : Option (List (Option Identifier))). pair (unwrap_or o []) ps) (sym has))
 
 pub is_none : {A : Type 0} (o : Option A) → ((a : A) → o ≡ Some a → ⊥) → o ≡ None
 is_none None never = refl

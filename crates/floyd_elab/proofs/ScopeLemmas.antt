@@ -6,12 +6,12 @@ use Rattle.floyd_ctypes.specs.declared.ctype.CType.{CType}
 use Rattle.floyd_elab_names.specs.declared.meaning.Meaning.{Meaning}
 use Rattle.floyd_elab_names.specs.declared.meaning.Meaning.TheVariants as m
 use Rattle.floyd_elab_names.specs.declared.meaning.Storage.TheVariants as kept
-use Rattle.floyd_elab_names.specs.Scopes.{Scope, Scopes, meaning_of, entered, with_meaning}
+use Rattle.floyd_elab_names.specs.Scopes.{Scope, Scopes, meaning_of, enter, with_meaning}
 use Rattle.floyd_elab.specs.Files.{is_again}
-use Rattle.floyd_elab.specs.Tables.{innermost}
+use Rattle.floyd_elab.specs.TableClauses.{innermost}
 
 -- the first scope that is entered is the only one
-pub one_entered : (now : Scopes) → now ≡ entered [] → now ≡ innermost now ∷ []
+pub one_entered : (now : Scopes) → now ≡ enter [] → now ≡ innermost now ∷ []
 one_entered now is = is ∙ sym (ap (λ (s : Scopes). innermost s ∷ []) is)
 
 module _ (before now : Scopes) (x : List ℕ) (m : Meaning) where

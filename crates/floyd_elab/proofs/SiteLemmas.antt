@@ -6,7 +6,7 @@ use Rattle.floyd_ctypes.specs.declared.ctype.CType.{CType}
 use Rattle.floyd_cparse_trees.specs.declared.types.Base.{Base}
 use Rattle.floyd_cparse_trees.specs.declared.types.Declarator.{Declarator}
 use Rattle.floyd_elab_names.specs.declared.tags.Tags.{Tags}
-use Rattle.floyd_elab_names.specs.Doing.{GivesWith, unless}
+use Rattle.floyd_elab_names.specs.Refusing.{GivesWith, unless}
 use Rattle.floyd_elab_names.specs.Refusals.{Site, left_out}
 use Rattle.floyd_elab_names.specs.Scopes.{Scopes}
 use Rattle.floyd_elab_names.specs.Types.{is_object_within}
@@ -14,14 +14,14 @@ use Rattle.floyd_elab_names.specs.Declarators.{limit_site, base_type, declarator
 use Rattle.floyd_elab_statements.specs.Locals.{nowhere}
 use Rattle.floyd_elab.specs.declared.file.File.{File}
 use Rattle.floyd_elab.specs.Files.{top}
-use Rattle.floyd_elab.specs.Parts.{base_declared, any_type_declared, unless_large}
+use Rattle.floyd_elab.specs.UnitClauses.{declare_base, any_type, unless_large}
 use Rattle.floyd_elab.proofs.FollowLemmas.{typing_gives}
 
 abbrev Typed : Result CType Halt → Tags → Result (CType × Tags) Refusal → Type 0
 Typed answer tags r = GivesWith (λ t. t) answer tags r
 
 module _ (file : File) (scopes : Scopes) (site : Site) (answer : Result CType Halt) (tags : Tags) (names : scopes ≡ top file) (at : site ≡ nowhere) where
-  pub base_at : (base : Base) → GivesWith (λ t. t) answer tags (base_type scopes site base file.tags) → GivesWith (λ t. t) answer (record file { tags = tags }) (base_declared base file)
+  pub base_at : (base : Base) → GivesWith (λ t. t) answer tags (base_type scopes site base file.tags) → GivesWith (λ t. t) answer (record file { tags = tags }) (declare_base base file)
   base_at base given =
       typing_gives file answer tags (base_type (top file) nowhere base file.tags)
       (subst (Typed answer tags)
@@ -29,7 +29,7 @@ module _ (file : File) (scopes : Scopes) (site : Site) (answer : Result CType Ha
       given)
 
   pub type_at : (base wanted : CType) (d : Declarator) → base ≡ wanted → GivesWith (λ t. t) answer tags (declarator_type scopes site base d file.tags)
-      → GivesWith (λ t. t) answer (record file { tags = tags }) (any_type_declared wanted d file)
+      → GivesWith (λ t. t) answer (record file { tags = tags }) (any_type wanted d file)
   type_at base wanted d is given =
       typing_gives file answer tags (declarator_type (top file) nowhere wanted d file.tags)
       (subst (Typed answer tags)

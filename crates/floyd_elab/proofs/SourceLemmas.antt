@@ -7,15 +7,15 @@ use Rattle.floyd_cparse_trees.specs.declared.declarations.CUnit.{CUnit}
 use Rattle.floyd_cparse_trees.specs.declared.declarations.External.{External}
 use Rattle.floyd_clight.specs.declared.unit.ClightUnit.{ClightUnit}
 use Rattle.floyd_elab.specs.declared.file.File.{File}
-use Rattle.floyd_elab.specs.Units.{externals_elaborated, nothing_declared, unit_of, unit_in, elaborated}
+use Rattle.floyd_elab.specs.Units.{elaborate_externals, empty_file, unit_of, unit_in, elaboration}
 
-module _ (unit : CUnit) (externals : List External) (file : File) (all : externals ≡ unit.externals) (none : file ≡ nothing_declared) where
-  from_none : externals_elaborated externals file ≡ externals_elaborated unit.externals nothing_declared
-  from_none = ap (λ (es : List External). externals_elaborated es file) all ∙ ap (externals_elaborated unit.externals) none
+module _ (unit : CUnit) (externals : List External) (file : File) (all : externals ≡ unit.externals) (none : file ≡ empty_file) where
+  from_none : elaborate_externals externals file ≡ elaborate_externals unit.externals empty_file
+  from_none = ap (λ (es : List External). elaborate_externals es file) all ∙ ap (elaborate_externals unit.externals) none
 
-  pub elaborated_stops : (halt : Halt) → Stops halt (externals_elaborated externals file) → Stops halt (elaborated unit)
+  pub elaborated_stops : (halt : Halt) → Stops halt (elaborate_externals externals file) → Stops halt (elaboration unit)
   elaborated_stops Memory e = tt
   elaborated_stops (Refused refusal) e = ap unit_in (sym from_none ∙ e)
 
-  pub elaborated_gives : (last : File) (answer : ClightUnit) → externals_elaborated externals file ≡ Ok (tt, last) → answer ≡ unit_of last → elaborated unit ≡ Ok answer
+  pub elaborated_gives : (last : File) (answer : ClightUnit) → elaborate_externals externals file ≡ Ok (tt, last) → answer ≡ unit_of last → elaboration unit ≡ Ok answer
   elaborated_gives last answer e is = ap unit_in (sym from_none ∙ e) ∙ sym (ap (λ (u : ClightUnit). Ok u) is)

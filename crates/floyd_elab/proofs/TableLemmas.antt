@@ -4,7 +4,7 @@ use Rattle.std.specs.List.{list_any}
 use Rattle.floyd_clight.specs.declared.unit.Defined.{Defined}
 use Rattle.floyd_clight.specs.declared.unit.Variable.{Variable}
 use Rattle.floyd_elab_names.specs.Scopes.{is_among}
-use Rattle.floyd_elab.specs.Tables.{is_variable, is_body, AddsName}
+use Rattle.floyd_elab.specs.TableClauses.{is_variable, is_body, AddsName}
 
 exchanged : (a b c : Bool) → (a || (b || c)) ≡ (b || (a || c))
 exchanged true true c = refl

@@ -9,8 +9,8 @@ use Rattle.floyd_clight.specs.declared.unit.StructDef.{StructDef}
 use Rattle.floyd_clight.specs.declared.unit.Variable.{Variable}
 use Rattle.floyd_elab.specs.declared.file.File.{File}
 use Rattle.floyd_elab.specs.Units.{unit_of}
-use Rattle.floyd_elab.specs.Tables.{is_variable}
-use Rattle.floyd_elab.specs.Parts.{not_among}
+use Rattle.floyd_elab.specs.TableClauses.{is_variable}
+use Rattle.floyd_elab.specs.UnitClauses.{not_among}
 
 last_first : (vs : List Variable) (v : Variable) → reverse (vs ++ v ∷ []) ≡ v ∷ reverse vs
 last_first vs v = reverse-append vs (v ∷ [])

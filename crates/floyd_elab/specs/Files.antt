@@ -9,7 +9,7 @@ use Rattle.floyd_elab_names.specs.declared.meaning.Meaning.{Meaning}
 use Rattle.floyd_elab_names.specs.declared.meaning.Meaning.TheVariants as m
 use Rattle.floyd_elab_names.specs.declared.meaning.Storage.TheVariants as kept
 use Rattle.floyd_elab_names.specs.declared.tags.Tags.{Tags}
-use Rattle.floyd_elab_names.specs.Doing.{Doing}
+use Rattle.floyd_elab_names.specs.Refusing.{Refusing}
 use Rattle.floyd_elab_names.specs.Typing.{Typing}
 use Rattle.floyd_elab_names.specs.Scopes.{Scopes}
 use Rattle.floyd_elab_names.specs.Types.{same_type}
@@ -21,7 +21,7 @@ use Rattle.floyd_clight.specs.declared.unit.Variable.{Variable}
 use Rattle.floyd_elab.specs.declared.file.File.{File}
 
 abbrev pub Filing : Type 0 → Type 0
-Filing A = Doing File A
+Filing A = Refusing File A
 
 -- the scopes at the top of a file
 abbrev pub top : File → Scopes

@@ -1,5 +1,5 @@
 -- Definitions that contracts cite.
-pub mod Tables
+pub mod TableClauses
 pub mod Files
 pub mod Units
-pub mod Parts
+pub mod UnitClauses

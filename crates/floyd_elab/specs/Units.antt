@@ -20,7 +20,7 @@ use Rattle.floyd_elab_names.specs.declared.meaning.Meaning.TheVariants as m
 use Rattle.floyd_elab_names.specs.declared.meaning.Storage.TheVariants as kept
 use Rattle.floyd_elab_names.specs.declared.tags.Tags.{Tags}
 use Rattle.floyd_elab_names.specs.Refusals.{Site, left_out, ill_typed, redeclared}
-use Rattle.floyd_elab_names.specs.Doing.{◌>>=◌, ◌>>◌, pure, refuse, unless, of_kept, changed}
+use Rattle.floyd_elab_names.specs.Refusing.{◌>>=◌, ◌>>◌, pure, refuse, unless, of_kept, modify}
 use Rattle.floyd_elab_names.specs.Typing.{the_structs}
 use Rattle.floyd_elab_names.specs.Scopes.{Scope}
 use Rattle.floyd_elab_names.specs.Types.{is_function, is_object_within, is_object_type, returns_well}
@@ -46,8 +46,8 @@ use Rattle.floyd_elab.specs.Files.{Filing, top, typing, may_declare, has_variabl
 -- Names at the top of a file.
 
 -- the name of a declarator, which has one here
-abbrev pub named : d.Declarator → Identifier
-named d = unwrap_or (name_of d) (record { name = []; place = nowhere.place })
+abbrev pub declarator_name : d.Declarator → Identifier
+declarator_name d = unwrap_or (name_of d) (record { name = []; place = nowhere.place })
 
 -- refuses where there is something to refuse at
 abbrev pub unless_at : Option Site → Filing (Unit {0})
@@ -55,12 +55,19 @@ unless_at None = pure tt
 unless_at (Some site) = refuse (left_out site)
 
 -- the type of a declarator, which is not too large or too deep
-abbrev pub type_declared : CType → d.Declarator → Filing CType
-type_declared base d = do
+abbrev pub declare_type : CType → d.Declarator → Filing CType
+declare_type base d = do
   t ← typing (λ scopes. declarator_type scopes nowhere base d)
   structs ← typing (λ scopes. the_structs)
   unless (left_out (limit_site nowhere d)) (is_object_within structs t)
   pure t
+
+-- refuses at a name what does not fit there as ill typed, and then what may not be declared as declared before
+abbrev pub judge_name : Identifier → (File → Bool) → (File → Bool) → Filing (Unit {0})
+judge_name i fits may = do
+  file ← of_kept (λ file. file)
+  unless (ill_typed i.place) (fits file)
+  unless (redeclared i) (may file)
 
 -- Variables.
 
@@ -69,24 +76,23 @@ abbrev pub contents_of : CType → Option (Place × Initialiser) → Filing Init
 contents_of t None = pure initial.Absent
 contents_of t (Some right) = typing (λ scopes. contents scopes right.0 t right.1)
 
-abbrev pub defined_if : Bool → Identifier → CType → Option (Place × Initialiser) → Filing (Unit {0})
-defined_if false i t right = pure tt
-defined_if true i t right = do
+abbrev pub define_if : Bool → Identifier → CType → Option (Place × Initialiser) → Filing (Unit {0})
+define_if false i t right = pure tt
+define_if true i t right = do
   first ← contents_of t right
-  changed (define_variable i t first)
+  modify (define_variable i t first)
+
+-- a variable of that name and type
+abbrev pub variable_of_name : Bool → Identifier → CType → Option (Place × Initialiser) → Filing (Unit {0})
+variable_of_name defines i t right = do
+  judge_name i (λ file. is_object_type file.tags.structs t) (λ file. may_declare file i.name (m.Variable i.name t kept.Global) && not (defines && has_variable file i.name))
+  modify (mention_variable i t)
+  define_if defines i t right
 
 -- A variable is defined where it is declared without `extern` or with an initialiser, and only once. It is in scope in
 -- its own initialiser.
 abbrev pub variable : Bool → CType → InitDeclarator → Filing (Unit {0})
-variable external t d = do
-  let i = named d.declarator
-  let defines = not external || is_some d.initialiser
-  structs ← typing (λ scopes. the_structs)
-  unless (ill_typed i.place) (is_object_type structs t)
-  file ← of_kept (λ file. file)
-  unless (redeclared i) (may_declare file i.name (m.Variable i.name t kept.Global) && not (defines && has_variable file i.name))
-  changed (mention_variable i t)
-  defined_if defines i t d.initialiser
+variable external t d = variable_of_name (not external || is_some d.initialiser) (declarator_name d.declarator) t d.initialiser
 
 -- Functions that are declared.
 
@@ -94,37 +100,39 @@ abbrev pub no_initialiser : Option (Place × Initialiser) → Filing (Unit {0})
 no_initialiser None = pure tt
 no_initialiser (Some right) = refuse (ill_typed right.0)
 
+abbrev pub function_of_name : Identifier → CType → Option (Place × Initialiser) → Filing (Unit {0})
+function_of_name i t right = do
+  judge_name i (λ file. returns_well t) (λ file. may_declare file i.name (m.Function t))
+  modify (mention_function i t)
+  no_initialiser right
+
 abbrev pub function : CType → InitDeclarator → Filing (Unit {0})
-function t d = do
-  let i = named d.declarator
-  unless (ill_typed i.place) (returns_well t)
-  file ← of_kept (λ file. file)
-  unless (redeclared i) (may_declare file i.name (m.Function t))
-  changed (mention_function i t)
-  no_initialiser d.initialiser
+function t d = function_of_name (declarator_name d.declarator) t d.initialiser
 
 -- A variable's type is not const at its top.
-abbrev pub declared : Bool → Specifiers → CType → InitDeclarator → Filing (Unit {0})
-declared external specifiers base d = do
+abbrev pub declare_one : Bool → Specifiers → CType → InitDeclarator → Filing (Unit {0})
+declare_one external specifiers base d = do
   file ← of_kept (λ file. file)
   unless_at (constant_at (top file) specifiers base d.declarator)
-  t ← type_declared base d.declarator
+  t ← declare_type base d.declarator
   if is_function t then function t d else variable external t d
 
-abbrev pub all_declared : Bool → Specifiers → CType → List InitDeclarator → Filing (Unit {0})
-all_declared external specifiers base [] = pure tt
-all_declared external specifiers base (d ∷ ds) = declared external specifiers base d >> all_declared external specifiers base ds
+abbrev pub declare_all : Bool → Specifiers → CType → List InitDeclarator → Filing (Unit {0})
+declare_all external specifiers base [] = pure tt
+declare_all external specifiers base (d ∷ ds) = declare_one external specifiers base d >> declare_all external specifiers base ds
 
 -- Typedefs. A name of a type is declared once, and may lack a size.
 
+abbrev pub typedef_of_name : Specifiers → CType → d.Declarator → Identifier → CType → Filing (Unit {0})
+typedef_of_name specifiers base d i t = do
+  judge_name i (λ file. returns_well t) (λ file. is_new file i.name)
+  file ← of_kept (λ file. file)
+  modify (add_meaning i.name (m.Type t (is_some (constant_at (top file) specifiers base d))))
+
 abbrev pub typedef : Specifiers → CType → d.Declarator → Filing (Unit {0})
 typedef specifiers base d = do
-  let i = named d
-  t ← type_declared base d
-  unless (ill_typed i.place) (returns_well t)
-  file ← of_kept (λ file. file)
-  unless (redeclared i) (is_new file i.name)
-  changed (add_meaning i.name (m.Type t (is_some (constant_at (top file) specifiers base d))))
+  t ← declare_type base d
+  typedef_of_name specifiers base d (declarator_name d) t
 
 abbrev pub all_typedefs : Specifiers → CType → List d.Declarator → Filing (Unit {0})
 all_typedefs specifiers base [] = pure tt
@@ -147,16 +155,16 @@ own_parameters (d.Array' p (d.more_of-Declarator inner d.end_of-Declarator) plac
 own_parameters (d.Function' p (d.more_of-Declarator inner d.end_of-Declarator) place shape ps) = if is_bare inner then Some (parameter_names ps) else own_parameters inner
 
 -- each parameter has a name
-abbrev pub all_named : Option (List (Option Identifier)) → Bool
-all_named None = false
-all_named (Some names) = list_all is_some names
+abbrev pub have_all_names : Option (List (Option Identifier)) → Bool
+have_all_names None = false
+have_all_names (Some names) = list_all is_some names
 
-abbrev pub paired : List (Option Identifier) → List CType → List Local
-paired (Some i ∷ names) (t ∷ ts) = record { name = i.name; ctype = t } ∷ paired names ts
-paired names ts = []
+abbrev pub pair : List (Option Identifier) → List CType → List Local
+pair (Some i ∷ names) (t ∷ ts) = record { name = i.name; ctype = t } ∷ pair names ts
+pair names ts = []
 
 abbrev pub parameters_of : d.Declarator → CType → List Local
-parameters_of d t = paired (unwrap_or (own_parameters d) []) (unwrap_or (signature_of t) ([], Void)).0
+parameters_of d t = pair (unwrap_or (own_parameters d) []) (unwrap_or (signature_of t) ([], Void)).0
 
 abbrev pub result_of : CType → CType
 result_of t = (unwrap_or (signature_of t) ([], Void)).1
@@ -183,39 +191,37 @@ abbrev pub with_body : Identifier → CType → List Local → File → Result (
 with_body i result parameters file (Ok r) = Ok (tt, define_function (definition i result parameters r.0 r.1) (record file { tags = r.1.tags }))
 with_body i result parameters file (Err refusal) = Err refusal
 
-abbrev pub bodied : Identifier → CType → List Local → c.CStatement → Filing (Unit {0})
-bodied i result parameters block =
+abbrev pub define_body : Identifier → CType → List Local → c.CStatement → Filing (Unit {0})
+define_body i result parameters block =
     λ file. with_body i result parameters file (body result (parameter_scope parameters ∷ top file) block (starting file.tags parameters))
 
 -- A function is in scope in its own body.
-abbrev pub function_defined : FunctionDefinition → Filing (Unit {0})
-function_defined f = do
-  let i = named f.declarator
+abbrev pub function_with_body : FunctionDefinition → Filing (Unit {0})
+function_with_body f = do
+  let i = declarator_name f.declarator
   base ← typing (λ scopes. base_type scopes nowhere f.specifiers.base)
-  t ← type_declared base f.declarator
-  unless (ill_typed i.place) (all_named (own_parameters f.declarator) && returns_well t)
-  file ← of_kept (λ file. file)
-  unless (redeclared i) (may_declare file i.name (m.Function t) && not (has_body file i.name))
-  changed (mention_function i t)
-  bodied i (result_of t) (parameters_of f.declarator t) (c.Block f.body)
+  t ← declare_type base f.declarator
+  judge_name i (λ file. have_all_names (own_parameters f.declarator) && returns_well t) (λ file. may_declare file i.name (m.Function t) && not (has_body file i.name))
+  modify (mention_function i t)
+  define_body i (result_of t) (parameters_of f.declarator t) (c.Block f.body)
 
 -- Files.
 
-abbrev pub external_elaborated : External → Filing (Unit {0})
-external_elaborated (external.Declaration d) = do
+abbrev pub elaborate_external : External → Filing (Unit {0})
+elaborate_external (external.Declaration d) = do
   base ← typing (λ scopes. base_type scopes nowhere d.specifiers.base)
-  all_declared d.external d.specifiers base d.declarators
-external_elaborated (external.Typedef d) = do
+  declare_all d.external d.specifiers base d.declarators
+elaborate_external (external.Typedef d) = do
   base ← typing (λ scopes. base_type scopes nowhere d.specifiers.base)
   all_typedefs d.specifiers base d.declarators
-external_elaborated (external.Function f) = function_defined f
+elaborate_external (external.Function f) = function_with_body f
 
-abbrev pub externals_elaborated : List External → Filing (Unit {0})
-externals_elaborated [] = pure tt
-externals_elaborated (e ∷ es) = external_elaborated e >> externals_elaborated es
+abbrev pub elaborate_externals : List External → Filing (Unit {0})
+elaborate_externals [] = pure tt
+elaborate_externals (e ∷ es) = elaborate_external e >> elaborate_externals es
 
-abbrev pub nothing_declared : File
-nothing_declared = record {
+abbrev pub empty_file : File
+empty_file = record {
   tags = record { structs = []; completed = [] };
   scope = [];
   defined = [];
@@ -244,5 +250,5 @@ abbrev pub unit_in : Result (Unit {0} × File) Refusal → Result ClightUnit Ref
 unit_in (Ok r) = Ok (unit_of r.1)
 unit_in (Err refusal) = Err refusal
 
-abbrev pub elaborated : CUnit → Result ClightUnit Refusal
-elaborated unit = unit_in (externals_elaborated unit.externals nothing_declared)
+abbrev pub elaboration : CUnit → Result ClightUnit Refusal
+elaboration unit = unit_in (elaborate_externals unit.externals empty_file)

@@ -2,12 +2,12 @@
 ghost use Rattle.std.specs.Prelude.{◌≡◌, ◌∷◌, IfOk, OnOk};
 ghost use Rattle.floyd_text.specs.Gives.{Gives};
 ghost use Rattle.floyd_cparse_trees.specs.declared.statements.CStatement.{Block};
-ghost use Rattle.floyd_elab_names.specs.Doing.{GivesWith};
+ghost use Rattle.floyd_elab_names.specs.Refusing.{GivesWith};
 ghost use Rattle.floyd_elab_statements.specs.Statements.{body as body_lem};
-ghost use Rattle.floyd_elab.specs.Units.{parameter_scope, starting as starting_lem, definition, bodied as bodied_lem};
+ghost use Rattle.floyd_elab.specs.Units.{parameter_scope, starting as starting_lem, definition, define_body as define_body_lem};
 ghost use Rattle.floyd_elab.specs.Files.{top, define_function};
-ghost use Rattle.floyd_elab.specs.Parts.{local_names, without_tags};
-ghost use Rattle.floyd_elab.specs.Tables.{with_parameter};
+ghost use Rattle.floyd_elab.specs.UnitClauses.{local_names, without_tags};
+ghost use Rattle.floyd_elab.specs.TableClauses.{with_parameter};
 
 use crate::file::File;
 use crate::scope::FileScope;
@@ -70,7 +70,7 @@ fn starting(alloc: Global, tags: Tags, parameters: &[Local]) -> Result<Progress,
 }
 
 /// The statements of a body, whose outermost block has one scope with the parameters.
-fn translated(
+fn body_statements(
     alloc: Global,
     names: &mut Names,
     result_type: &CType,
@@ -101,7 +101,7 @@ fn body_of(
     ensures scopes { OnOk result (names.new ≡ names.old) }
 {
     let mut progress = starting(alloc, tags, parameters)?;
-    let statements = translated(alloc, names, result_type, parameters, items, &mut progress)?;
+    let statements = body_statements(alloc, names, result_type, parameters, items, &mut progress)?;
     Ok((statements, progress))
 }
 
@@ -134,15 +134,10 @@ fn define(
 ) -> Result<(), AllocError>
     ensures { OnOk result (file.new ≡ define_function (definition i result_type parameters statements progress) (record file.old { tags = progress.tags })) }
 {
-    let Progress {
-        tags,
-        temporaries,
-        blocks,
-        ..
-    } = progress;
+    let (tags, temporaries, blocks) = progress.into_parts();
     file.tags = tags;
     file.bodies.add(Defined {
-        name: i.name,
+        name: i.name.share()?,
         place: i.place,
         result: result_type,
         parameters,
@@ -153,7 +148,7 @@ fn define(
 }
 
 /// Defines a function with its body.
-pub(crate) fn bodied(
+pub(crate) fn define_body(
     alloc: Global,
     file: &mut File,
     i: Identifier,
@@ -161,7 +156,7 @@ pub(crate) fn bodied(
     parameters: LocalList,
     items: &[BlockItem],
 ) -> Result<(), Halt>
-    ensures { GivesWith (λ u. u) result file.new (bodied_lem i result_type parameters (Block items.now) file.old) }
+    ensures { GivesWith (λ u. u) result file.new (define_body_lem i result_type parameters (Block items.now) file.old) }
 {
     let done = body_in(alloc, file, &result_type, parameters.as_slice(), items)?;
     let (statements, progress) = done;

@@ -1,11 +1,11 @@
 //! Variables and functions that one declaration declares.
-ghost use Rattle.floyd_elab_names.specs.Doing.{GivesWith};
-ghost use Rattle.floyd_elab.specs.Parts.{unless_constant as unless_constant_lem, declared_as as declared_as_lem};
-ghost use Rattle.floyd_elab.specs.Units.{declared as declared_lem, all_declared as all_declared_lem};
+ghost use Rattle.floyd_elab_names.specs.Refusing.{GivesWith};
+ghost use Rattle.floyd_elab.specs.UnitClauses.{unless_constant as unless_constant_lem, declare_as as declare_as_lem};
+ghost use Rattle.floyd_elab.specs.Units.{declare_one as declare_one_lem, declare_all as declare_all_lem};
 
 use crate::file::File;
 use crate::functions::function;
-use crate::sites::type_declared;
+use crate::sites::declare_type;
 use crate::variables::variable;
 use floyd_cparse_trees::{Declarator, InitDeclarator, Specifiers};
 use floyd_ctypes::CType;
@@ -31,14 +31,14 @@ fn unless_constant(
 }
 
 /// A function or a variable of that type.
-fn declared_as(
+fn declare_as(
     alloc: Global,
     file: &mut File,
     external: bool,
     d: &InitDeclarator,
     t: &CType,
 ) -> Result<(), Halt>
-    ensures { GivesWith (λ u. u) result file.new (declared_as_lem external d.now t.now file.old) }
+    ensures { GivesWith (λ u. u) result file.new (declare_as_lem external d.now t.now file.old) }
 {
     if is_function(t) {
         function(alloc, file, t, d)
@@ -48,7 +48,7 @@ fn declared_as(
 }
 
 /// A variable or a function, whose type is not const at its top.
-fn declared(
+fn declare_one(
     alloc: Global,
     file: &mut File,
     external: bool,
@@ -56,15 +56,15 @@ fn declared(
     base: &CType,
     d: &InitDeclarator,
 ) -> Result<(), Halt>
-    ensures { GivesWith (λ u. u) result file.new (declared_lem external specifiers.now base.now d.now file.old) }
+    ensures { GivesWith (λ u. u) result file.new (declare_one_lem external specifiers.now base.now d.now file.old) }
 {
     unless_constant(alloc, file, specifiers, base, &d.declarator)?;
-    let t = type_declared(alloc, file, base, &d.declarator)?;
-    declared_as(alloc, file, external, d, &t)
+    let t = declare_type(alloc, file, base, &d.declarator)?;
+    declare_as(alloc, file, external, d, &t)
 }
 
 /// The variables and functions of one base.
-pub(crate) fn all_declared(
+pub(crate) fn declare_all(
     alloc: Global,
     file: &mut File,
     external: bool,
@@ -72,10 +72,10 @@ pub(crate) fn all_declared(
     base: &CType,
     declarators: &[InitDeclarator],
 ) -> Result<(), Halt>
-    ensures { GivesWith (λ u. u) result file.new (all_declared_lem external specifiers.now base.now declarators.now file.old) }
+    ensures { GivesWith (λ u. u) result file.new (declare_all_lem external specifiers.now base.now declarators.now file.old) }
 {
     'declarators: for d in declarators {
-        declared(alloc, file, external, specifiers, base, d)?;
+        declare_one(alloc, file, external, specifiers, base, d)?;
     }
     Ok(())
 }

@@ -3,8 +3,8 @@ ghost use Rattle.std.specs.Prelude.{◌≡◌, [], Some, IfOk, OnOk};
 ghost use Rattle.floyd_elab_names.specs.declared.meaning.Meaning.TheVariants as m;
 ghost use Rattle.floyd_elab_names.specs.declared.meaning.Storage.TheVariants as kept;
 ghost use Rattle.floyd_elab.specs.Files.{top, is_again, may_declare, is_new as is_new_lem, add_meaning as add_meaning_lem};
-ghost use Rattle.floyd_elab.specs.Units.{nothing_declared};
-ghost use Rattle.floyd_elab.specs.Parts.{no_tags as no_tags_lem, without_names, without_tags};
+ghost use Rattle.floyd_elab.specs.Units.{empty_file};
+ghost use Rattle.floyd_elab.specs.UnitClauses.{no_tags as no_tags_lem, without_names, without_tags};
 
 use crate::scope::FileScope;
 use crate::tables::{DefinedFunctions, DefinedVariables};
@@ -17,7 +17,6 @@ use std::alloc::{AllocError, Global};
 use std::mem;
 
 /// What is known of a file so far.
-#[derive(Drop)]
 pub(crate) struct File {
     pub tags: Tags,
     /// The names of the file, and what each stands for.
@@ -32,10 +31,29 @@ pub(crate) struct File {
     pub bodies: DefinedFunctions,
 }
 
+impl Drop for File {
+    fn drop(self) {
+        let File {
+            tags,
+            scope,
+            defined,
+            mentioned,
+            functions,
+            bodies,
+        } = self;
+        drop(tags);
+        drop(scope);
+        drop(defined);
+        drop(mentioned);
+        drop(functions);
+        drop(bodies);
+    }
+}
+
 impl File {
     /// Nothing is declared yet.
     pub(crate) fn new(alloc: Global) -> Result<File, AllocError>
-        ensures { IfOk result (λ file. file ≡ nothing_declared) }
+        ensures { IfOk result (λ file. file ≡ empty_file) }
     {
         let scope = FileScope::new(alloc)?;
         Ok(File {
@@ -46,6 +64,30 @@ impl File {
             functions: Items::new(alloc),
             bodies: DefinedFunctions::new(alloc),
         })
+    }
+
+    /// Its variables that are defined, those that are declared, its functions that are declared, and those with a body.
+    pub(crate) fn into_parts(
+        self,
+    ) -> (
+        DefinedVariables,
+        VariableList,
+        DeclaredList,
+        DefinedFunctions,
+    )
+        ensures { result ≡ (self.defined, self.mentioned, self.functions, self.bodies) }
+    {
+        let File {
+            tags,
+            scope,
+            defined,
+            mentioned,
+            functions,
+            bodies,
+        } = self;
+        drop(tags);
+        drop(scope);
+        (defined, mentioned, functions, bodies)
     }
 
     /// Whether the name was not declared before.

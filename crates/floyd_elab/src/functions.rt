@@ -1,17 +1,17 @@
 //! Functions that are declared.
 ghost use Rattle.std.specs.Prelude.{◌≡◌, OnOk};
-ghost use Rattle.floyd_elab_names.specs.Doing.{GivesWith};
+ghost use Rattle.floyd_elab_names.specs.Refusing.{GivesWith};
 ghost use Rattle.floyd_elab.specs.Files.{mention_function as mention_function_lem, declaration_of};
-ghost use Rattle.floyd_elab.specs.Units.{no_initialiser as no_initialiser_lem, function as function_lem};
-ghost use Rattle.floyd_elab.specs.Parts.{with_function, function_judged, function_named as function_named_lem};
+ghost use Rattle.floyd_elab.specs.Units.{no_initialiser as no_initialiser_lem, function_of_name as function_of_name_lem, function as function_lem};
+ghost use Rattle.floyd_elab.specs.UnitClauses.{with_function};
 
 use crate::file::File;
-use crate::parameters::shared_types;
-use crate::sites::named;
+use crate::parameters::share_types;
+use crate::sites::{declarator_name, judge_name};
 use floyd_clight::{Declared, DeclaredList};
 use floyd_cparse_trees::{Identifier, InitDeclarator, Initialiser};
 use floyd_ctypes::CType;
-use floyd_elab_names::{Meaning, ill_typed, redeclared, returns_well};
+use floyd_elab_names::{Meaning, ill_typed, returns_well};
 use floyd_text::{Halt, Place};
 use std::alloc::{AllocError, Global};
 
@@ -29,7 +29,7 @@ fn add_function(
             functions.push(Declared {
                 name: i.name.share()?,
                 place: i.place,
-                parameters: shared_types(alloc, parameters.as_slice())?,
+                parameters: share_types(alloc, parameters.as_slice())?,
                 result: result.get().share(alloc)?,
             })?;
             Ok(())
@@ -56,19 +56,6 @@ pub(crate) fn mention_function(
     Ok(())
 }
 
-/// Refuses a function of that name and type that may not be declared.
-fn judge_function(file: &File, i: &Identifier, t: &CType) -> Result<(), Halt>
-    ensures { GivesWith (λ u. u) result file.now (function_judged i.now t.now file.now) }
-{
-    if !returns_well(t) {
-        return Err(Halt::Refused(ill_typed(i.place)));
-    }
-    if !file.may_declare_function(&i.name, t) {
-        return Err(Halt::Refused(redeclared(i)?));
-    }
-    Ok(())
-}
-
 /// A function has no initialiser.
 fn no_initialiser(file: &File, right: &Option<(Place, Initialiser)>) -> Result<(), Halt>
     ensures { GivesWith (λ u. u) result file.now (no_initialiser_lem right.now file.now) }
@@ -80,16 +67,17 @@ fn no_initialiser(file: &File, right: &Option<(Place, Initialiser)>) -> Result<(
 }
 
 /// A function of that name and type.
-fn function_named(
+fn function_of_name(
     alloc: Global,
     file: &mut File,
     i: &Identifier,
     t: &CType,
     right: &Option<(Place, Initialiser)>,
 ) -> Result<(), Halt>
-    ensures { GivesWith (λ u. u) result file.new (function_named_lem i.now t.now right.now file.old) }
+    ensures { GivesWith (λ u. u) result file.new (function_of_name_lem i.now t.now right.now file.old) }
 {
-    judge_function(file, i, t)?;
+    let may = file.may_declare_function(&i.name, t);
+    judge_name(i, returns_well(t), may)?;
     mention_function(alloc, file, i, t)?;
     no_initialiser(file, right)
 }
@@ -103,6 +91,6 @@ pub(crate) fn function(
 ) -> Result<(), Halt>
     ensures { GivesWith (λ u. u) result file.new (function_lem t.now d.now file.old) }
 {
-    let i = named(alloc, &d.declarator)?;
-    function_named(alloc, file, &i, t, &d.initialiser)
+    let i = declarator_name(alloc, &d.declarator)?;
+    function_of_name(alloc, file, &i, t, &d.initialiser)
 }

@@ -2,20 +2,20 @@
 ghost use Rattle.std.specs.Prelude.{◌≡◌, ◌&&◌, not};
 ghost use Rattle.floyd_cparse_trees.specs.declared.statements.CStatement.{Block};
 ghost use Rattle.floyd_elab_names.specs.declared.meaning.Meaning.TheVariants as m;
-ghost use Rattle.floyd_elab_names.specs.Doing.{GivesWith};
+ghost use Rattle.floyd_elab_names.specs.Refusing.{GivesWith};
 ghost use Rattle.floyd_elab_names.specs.Types.{returns_well as returns_well_lem};
 ghost use Rattle.floyd_elab.specs.Files.{may_declare, has_body};
-ghost use Rattle.floyd_elab.specs.Units.{own_parameters, all_named as all_named_lem, parameters_of as parameters_of_lem, result_of as result_of_lem, bodied as bodied_lem, function_defined as function_defined_lem};
-ghost use Rattle.floyd_elab.specs.Parts.{type_of_heading, judged};
+ghost use Rattle.floyd_elab.specs.Units.{own_parameters, have_all_names as have_all_names_lem, parameters_of as parameters_of_lem, result_of as result_of_lem, define_body as define_body_lem, function_with_body as function_with_body_lem};
+ghost use Rattle.floyd_elab.specs.UnitClauses.{type_of_heading};
 
-use crate::bodies::bodied;
+use crate::bodies::define_body;
 use crate::file::File;
 use crate::functions::mention_function;
-use crate::parameters::{all_named, parameters_of, result_of};
-use crate::sites::{base_declared, named, type_declared};
+use crate::parameters::{have_all_names, parameters_of, result_of};
+use crate::sites::{declarator_name, declare_base, declare_type, judge_name};
 use floyd_cparse_trees::{Declarator, FunctionDefinition, Identifier};
 use floyd_ctypes::CType;
-use floyd_elab_names::{ill_typed, redeclared, returns_well};
+use floyd_elab_names::returns_well;
 use floyd_text::{Halt, Name};
 use std::alloc::Global;
 
@@ -23,15 +23,15 @@ use std::alloc::Global;
 fn heading(alloc: Global, file: &mut File, f: &FunctionDefinition) -> Result<CType, Halt>
     ensures { GivesWith (λ t. t) result file.new (type_of_heading f.now file.old) }
 {
-    let base = base_declared(alloc, file, &f.specifiers.base)?;
-    type_declared(alloc, file, &base, &f.declarator)
+    let base = declare_base(alloc, file, &f.specifiers.base)?;
+    declare_type(alloc, file, &base, &f.declarator)
 }
 
 /// Whether a function of that type may have a body: its own parameters have names.
 fn is_definable(d: &Declarator, t: &CType) -> bool
-    ensures { result ≡ (all_named_lem (own_parameters d.now) && returns_well_lem t.now) }
+    ensures { result ≡ (have_all_names_lem (own_parameters d.now) && returns_well_lem t.now) }
 {
-    all_named(d) && returns_well(t)
+    have_all_names(d) && returns_well(t)
 }
 
 /// Whether a function of that name and type may have its body here.
@@ -41,45 +41,34 @@ fn may_be_here(file: &File, x: &Name, t: &CType) -> bool
     file.may_declare_function(x, t) && !file.bodies.has(x)
 }
 
-/// Refuses a function of that type that may not have a body.
-fn judge(file: &File, i: &Identifier, d: &Declarator, t: &CType) -> Result<(), Halt>
-    ensures { GivesWith (λ u. u) result file.now (judged i.now d.now t.now file.now) }
-{
-    if !is_definable(d, t) {
-        return Err(Halt::Refused(ill_typed(i.place)));
-    }
-    if !may_be_here(file, &i.name, t) {
-        return Err(Halt::Refused(redeclared(i)?));
-    }
-    Ok(())
-}
-
 /// A function of that type, with its body.
-fn function_bodied(
+fn body_of_function(
     alloc: Global,
     file: &mut File,
     i: Identifier,
     t: &CType,
     f: &FunctionDefinition,
 ) -> Result<(), Halt>
-    ensures { GivesWith (λ u. u) result file.new (bodied_lem i (result_of_lem t.now) (parameters_of_lem f.now.declarator t.now) (Block f.now.body) file.old) }
+    ensures { GivesWith (λ u. u) result file.new (define_body_lem i (result_of_lem t.now) (parameters_of_lem f.now.declarator t.now) (Block f.now.body) file.old) }
 {
     let result_type = result_of(alloc, t)?;
     let parameters = parameters_of(alloc, &f.declarator, t)?;
-    bodied(alloc, file, i, result_type, parameters, f.body.as_slice())
+    define_body(alloc, file, i, result_type, parameters, f.body.as_slice())
 }
 
 /// A function with a body, which is in scope in that.
-pub(crate) fn function_defined(
+pub(crate) fn function_with_body(
     alloc: Global,
     file: &mut File,
     f: &FunctionDefinition,
 ) -> Result<(), Halt>
-    ensures { GivesWith (λ u. u) result file.new (function_defined_lem f.now file.old) }
+    ensures { GivesWith (λ u. u) result file.new (function_with_body_lem f.now file.old) }
 {
-    let i = named(alloc, &f.declarator)?;
+    let i = declarator_name(alloc, &f.declarator)?;
     let t = heading(alloc, file, f)?;
-    judge(file, &i, &f.declarator, &t)?;
+    let fits = is_definable(&f.declarator, &t);
+    let may = may_be_here(file, &i.name, &t);
+    judge_name(&i, fits, may)?;
     mention_function(alloc, file, &i, &t)?;
-    function_bodied(alloc, file, i, &t, f)
+    body_of_function(alloc, file, i, &t, f)
 }

@@ -3,8 +3,8 @@ ghost use Rattle.std.specs.Prelude.{◌≡◌, IfOk, is_some, option_map};
 ghost use Rattle.std.specs.List.{list_all};
 ghost use Rattle.std.specs.Option.{option_copied};
 ghost use Rattle.floyd_elab_names.specs.Declarators.{name_of as name_of_lem};
-ghost use Rattle.floyd_elab.specs.Units.{own_parameters as own_parameters_lem, all_named as all_named_lem, paired as paired_lem, parameters_of as parameters_of_lem, result_of as result_of_lem};
-ghost use Rattle.floyd_elab.specs.Parts.{names_of, local_of};
+ghost use Rattle.floyd_elab.specs.Units.{own_parameters as own_parameters_lem, have_all_names as have_all_names_lem, pair as pair_lem, parameters_of as parameters_of_lem, result_of as result_of_lem};
+ghost use Rattle.floyd_elab.specs.UnitClauses.{names_of, local_of};
 
 use floyd_clight::{Local, LocalList};
 use floyd_cparse_trees::{Declarator, Parameter};
@@ -14,7 +14,7 @@ use sqlite_items::{Items, at};
 use std::alloc::{AllocError, Global};
 
 /// The same types.
-pub(crate) fn shared_types(alloc: Global, types: &[CType]) -> Result<TypeList, AllocError>
+pub(crate) fn share_types(alloc: Global, types: &[CType]) -> Result<TypeList, AllocError>
     ensures { IfOk result (λ all. all ≡ types.now) }
 {
     let mut all = Items::new(alloc);
@@ -47,8 +47,8 @@ fn own_parameters(d: &Declarator) -> Option<&Items<Parameter>>
 }
 
 /// Whether it is a function's own, and each of its parameters has a name.
-pub(crate) fn all_named(d: &Declarator) -> bool
-    ensures { result ≡ all_named_lem (own_parameters_lem d.now) }
+pub(crate) fn have_all_names(d: &Declarator) -> bool
+    ensures { result ≡ have_all_names_lem (own_parameters_lem d.now) }
 {
     match own_parameters(d) {
         None => false,
@@ -85,8 +85,8 @@ fn local(
 }
 
 /// Each parameter with its type, up to the first that has no name.
-fn paired(alloc: Global, parameters: &[Parameter], types: &[CType]) -> Result<LocalList, AllocError>
-    ensures { IfOk result (λ locals. locals ≡ paired_lem (names_of parameters.now) types.now) }
+fn pair(alloc: Global, parameters: &[Parameter], types: &[CType]) -> Result<LocalList, AllocError>
+    ensures { IfOk result (λ locals. locals ≡ pair_lem (names_of parameters.now) types.now) }
 {
     let mut locals = Items::new(alloc);
     'parameters: for (k, parameter) in parameters.iter().enumerate() {
@@ -111,7 +111,7 @@ pub(crate) fn parameters_of(
     match t {
         CType::Function(types, _) => match own_parameters(d) {
             None => Ok(Items::new(alloc)),
-            Some(parameters) => Ok(paired(alloc, parameters.as_slice(), types.as_slice())?),
+            Some(parameters) => Ok(pair(alloc, parameters.as_slice(), types.as_slice())?),
         },
         CType::Void | CType::Int(_) | CType::Pointer(_) | CType::Array(_, _) | CType::Struct(_) =>
             Ok(Items::new(alloc)),

@@ -2,7 +2,7 @@
 ghost use Rattle.std.specs.Prelude.{◌≡◌, ◌++◌, ◌∷◌, [], IfOk, OnOk, bytes_eq};
 ghost use Rattle.std.specs.Option.{option_copied};
 ghost use Rattle.std.specs.Map.{lookup};
-ghost use Rattle.floyd_elab.specs.Tables.{innermost};
+ghost use Rattle.floyd_elab.specs.TableClauses.{innermost};
 
 use floyd_elab_names::{Meaning, Names};
 use floyd_text::Name;
@@ -10,9 +10,15 @@ use std::alloc::{AllocError, Global};
 use std::marker::Model;
 
 /// The one scope at the top of a file. Contracts see its names, and what each stands for.
-#[derive(Drop)]
 pub(crate) struct FileScope {
     names: Names,
+}
+
+impl Drop for FileScope {
+    fn drop(self) {
+        let FileScope { names } = self;
+        drop(names);
+    }
 }
 
 impl Model for FileScope {
@@ -25,7 +31,7 @@ impl Model for FileScope {
 
     ghost coded = { Prim.hlevel (codes, meaning.the_row.coded) };
 
-    ghost use Rattle.floyd_elab.specs.Tables.{innermost};
+    ghost use Rattle.floyd_elab.specs.TableClauses.{innermost};
 
     ghost view = { λ s. innermost s.names };
 

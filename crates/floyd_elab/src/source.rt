@@ -1,13 +1,13 @@
 //! A whole source.
 ghost use Rattle.floyd_text.specs.Gives.{Gives};
 ghost use Rattle.floyd_cparse_trees.specs.declared.declarations.External.TheVariants as external;
-ghost use Rattle.floyd_elab_names.specs.Doing.{GivesWith};
-ghost use Rattle.floyd_elab.specs.Units.{external_elaborated as external_elaborated_lem, externals_elaborated as externals_elaborated_lem, elaborated};
+ghost use Rattle.floyd_elab_names.specs.Refusing.{GivesWith};
+ghost use Rattle.floyd_elab.specs.Units.{elaborate_external as elaborate_external_lem, elaborate_externals as elaborate_externals_lem, elaboration};
 
-use crate::declarations::all_declared;
+use crate::declarations::declare_all;
 use crate::file::File;
-use crate::headings::function_defined;
-use crate::sites::base_declared;
+use crate::headings::function_with_body;
+use crate::sites::declare_base;
 use crate::typedefs::all_typedefs;
 use crate::units::unit_of;
 use floyd_clight::ClightUnit;
@@ -17,10 +17,10 @@ use std::alloc::Global;
 
 /// Variables and functions that are declared.
 fn declaration(alloc: Global, file: &mut File, d: &Declaration) -> Result<(), Halt>
-    ensures { GivesWith (λ u. u) result file.new (external_elaborated_lem (external.Declaration d.now) file.old) }
+    ensures { GivesWith (λ u. u) result file.new (elaborate_external_lem (external.Declaration d.now) file.old) }
 {
-    let base = base_declared(alloc, file, &d.specifiers.base)?;
-    all_declared(
+    let base = declare_base(alloc, file, &d.specifiers.base)?;
+    declare_all(
         alloc,
         file,
         d.external,
@@ -32,29 +32,29 @@ fn declaration(alloc: Global, file: &mut File, d: &Declaration) -> Result<(), Ha
 
 /// Names of types.
 fn typedefs(alloc: Global, file: &mut File, d: &Typedef) -> Result<(), Halt>
-    ensures { GivesWith (λ u. u) result file.new (external_elaborated_lem (external.Typedef d.now) file.old) }
+    ensures { GivesWith (λ u. u) result file.new (elaborate_external_lem (external.Typedef d.now) file.old) }
 {
-    let base = base_declared(alloc, file, &d.specifiers.base)?;
+    let base = declare_base(alloc, file, &d.specifiers.base)?;
     all_typedefs(alloc, file, &d.specifiers, &base, d.declarators.as_slice())
 }
 
 /// One declaration of a source, behind what stands before it.
-fn external_elaborated(alloc: Global, file: &mut File, e: &External) -> Result<(), Halt>
-    ensures { GivesWith (λ u. u) result file.new (external_elaborated_lem e.now file.old) }
+fn elaborate_external(alloc: Global, file: &mut File, e: &External) -> Result<(), Halt>
+    ensures { GivesWith (λ u. u) result file.new (elaborate_external_lem e.now file.old) }
 {
     match e {
         External::Declaration(d) => declaration(alloc, file, d),
         External::Typedef(d) => typedefs(alloc, file, d),
-        External::Function(f) => function_defined(alloc, file, f),
+        External::Function(f) => function_with_body(alloc, file, f),
     }
 }
 
 /// The declarations of a source, behind what stands before them.
-fn externals_elaborated(alloc: Global, file: &mut File, externals: &[External]) -> Result<(), Halt>
-    ensures { GivesWith (λ u. u) result file.new (externals_elaborated_lem externals.now file.old) }
+fn elaborate_externals(alloc: Global, file: &mut File, externals: &[External]) -> Result<(), Halt>
+    ensures { GivesWith (λ u. u) result file.new (elaborate_externals_lem externals.now file.old) }
 {
     'externals: for e in externals {
-        external_elaborated(alloc, file, e)?;
+        elaborate_external(alloc, file, e)?;
     }
     Ok(())
 }
@@ -66,11 +66,12 @@ fn externals_elaborated(alloc: Global, file: &mut File, externals: &[External]) 
 /// declared, 403 one that was declared before as something else, 404 an effect inside an expression, and 405 a cast that
 /// is left out.
 ///
-/// The source is what `parse` gives with this file number. It stands in the places of the source already.
+/// The source is what `floyd_cparse::parse` gives with the file number `_file`. The number stands in every place of the
+/// source already, and refusals take it from there.
 pub fn elaborate(alloc: Global, _file: u32, unit: &CUnit) -> Result<ClightUnit, Halt>
-    ensures exact { Gives (λ u. u) result (elaborated unit.now) }
+    ensures exact { Gives (λ u. u) result (elaboration unit.now) }
 {
     let mut file = File::new(alloc)?;
-    externals_elaborated(alloc, &mut file, unit.externals.as_slice())?;
+    elaborate_externals(alloc, &mut file, unit.externals.as_slice())?;
     Ok(unit_of(alloc, file)?)
 }

@@ -2,7 +2,7 @@
 ghost use Rattle.std.specs.Prelude.{◌≡◌, ◌<◌, ◌++◌, ◌∷◌, [], ℕ, List, OnOk};
 ghost use Rattle.indexmap.specs.IndexSet.{spare, IsUnchanged};
 ghost use Rattle.floyd_elab_names.specs.Scopes.{is_among};
-ghost use Rattle.floyd_elab.specs.Tables.{is_variable, is_body, AddsName};
+ghost use Rattle.floyd_elab.specs.TableClauses.{is_variable, is_body, AddsName};
 
 use floyd_clight::{Defined, DefinedList, Variable, VariableList};
 use floyd_text::Name;
@@ -12,10 +12,17 @@ use std::alloc::{AllocError, Global};
 use std::marker::Model;
 
 /// The variables that are defined, in order.
-#[derive(Drop)]
 pub(crate) struct DefinedVariables {
     items: VariableList,
     names: IndexSet<Name>,
+}
+
+impl Drop for DefinedVariables {
+    fn drop(self) {
+        let DefinedVariables { items, names } = self;
+        drop(items);
+        drop(names);
+    }
 }
 
 impl Model for DefinedVariables {
@@ -30,7 +37,7 @@ impl Model for DefinedVariables {
     ghost coded = { Prim.hlevel (codes, ctype.the_row.coded, initial.the_row.coded) };
 
     ghost use Rattle.floyd_elab_names.specs.Scopes.{is_among};
-    ghost use Rattle.floyd_elab.specs.Tables.{is_variable};
+    ghost use Rattle.floyd_elab.specs.TableClauses.{is_variable};
 
     ghost view = { λ v. v.items };
 
@@ -68,16 +75,24 @@ impl DefinedVariables {
     pub(crate) fn into_items(self) -> VariableList
         ensures { result ≡ self }
     {
-        let DefinedVariables { items, .. } = self;
+        let DefinedVariables { items, names } = self;
+        drop(names);
         items
     }
 }
 
 /// The functions with a body, in order.
-#[derive(Drop)]
 pub(crate) struct DefinedFunctions {
     items: DefinedList,
     names: IndexSet<Name>,
+}
+
+impl Drop for DefinedFunctions {
+    fn drop(self) {
+        let DefinedFunctions { items, names } = self;
+        drop(items);
+        drop(names);
+    }
 }
 
 impl Model for DefinedFunctions {
@@ -92,7 +107,7 @@ impl Model for DefinedFunctions {
     ghost coded = { Prim.hlevel (codes, ctype.the_row.coded, stmt.the_row.coded) };
 
     ghost use Rattle.floyd_elab_names.specs.Scopes.{is_among};
-    ghost use Rattle.floyd_elab.specs.Tables.{is_body};
+    ghost use Rattle.floyd_elab.specs.TableClauses.{is_body};
 
     ghost view = { λ b. b.items };
 
@@ -130,7 +145,8 @@ impl DefinedFunctions {
     pub(crate) fn into_items(self) -> DefinedList
         ensures { result ≡ self }
     {
-        let DefinedFunctions { items, .. } = self;
+        let DefinedFunctions { items, names } = self;
+        drop(names);
         items
     }
 }

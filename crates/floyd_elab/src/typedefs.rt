@@ -1,32 +1,26 @@
 //! Names of types of a file.
 ghost use Rattle.std.specs.Prelude.{◌≡◌, IfOk, OnOk, is_some};
 ghost use Rattle.floyd_elab_names.specs.declared.meaning.Meaning.TheVariants as m;
-ghost use Rattle.floyd_elab_names.specs.Doing.{GivesWith};
+ghost use Rattle.floyd_elab_names.specs.Refusing.{GivesWith};
 ghost use Rattle.floyd_elab_data.specs.Constant.{constant_at as constant_at_lem};
 ghost use Rattle.floyd_elab.specs.Files.{top, add_meaning};
-ghost use Rattle.floyd_elab.specs.Parts.{typedef_judged, type_named as type_named_lem};
-ghost use Rattle.floyd_elab.specs.Units.{typedef as typedef_lem, all_typedefs as all_typedefs_lem};
+ghost use Rattle.floyd_elab.specs.Units.{typedef_of_name as typedef_of_name_lem, typedef as typedef_lem, all_typedefs as all_typedefs_lem};
 
 use crate::file::File;
-use crate::sites::{named, type_declared};
+use crate::sites::{declarator_name, declare_type, judge_name};
 use floyd_cparse_trees::{Declarator, Identifier, Specifiers};
 use floyd_ctypes::CType;
 use floyd_elab_data::constant_at;
-use floyd_elab_names::{Meaning, ill_typed, redeclared, returns_well};
+use floyd_elab_names::{Meaning, returns_well};
 use floyd_text::Halt;
 use std::alloc::{AllocError, Global};
 
-/// Refuses a name of that type that may not be declared.
-fn judge_typedef(file: &File, i: &Identifier, t: &CType) -> Result<(), Halt>
-    ensures { GivesWith (λ u. u) result file.now (typedef_judged i.now t.now file.now) }
-{
-    if !returns_well(t) {
-        return Err(Halt::Refused(ill_typed(i.place)));
-    }
-    if !file.is_new(&i.name) {
-        return Err(Halt::Refused(redeclared(i)?));
-    }
-    Ok(())
+/// A typedef's specifiers, with the type that they name, and one of its declarators.
+#[derive(Clone, Copy)]
+struct TypedefParts<'a> {
+    specifiers: &'a Specifiers,
+    base: &'a CType,
+    declarator: &'a Declarator,
 }
 
 /// Declares a name of that type.
@@ -47,33 +41,27 @@ fn add_type(
 }
 
 /// Whether the type is const at its top.
-fn is_constant(
-    alloc: Global,
-    file: &File,
-    specifiers: &Specifiers,
-    base: &CType,
-    d: &Declarator,
-) -> Result<bool, AllocError>
-    ensures { IfOk result (λ b. b ≡ is_some (constant_at_lem (top file.now) specifiers.now base.now d.now)) }
+fn is_constant(alloc: Global, file: &File, parts: TypedefParts<'_>) -> Result<bool, AllocError>
+    ensures { IfOk result (λ b. b ≡ is_some (constant_at_lem (top file.now) parts.entry.specifiers.now parts.entry.base.now parts.entry.declarator.now)) }
 {
-    let constant = constant_at(alloc, file.scope.names(), specifiers, base, d)?;
+    let names = file.scope.names();
+    let constant = constant_at(alloc, names, parts.specifiers, parts.base, parts.declarator)?;
     Ok(constant.is_some())
 }
 
 /// A name of that type.
-fn type_named(
+fn typedef_of_name(
     alloc: Global,
     file: &mut File,
-    specifiers: &Specifiers,
-    base: &CType,
-    d: &Declarator,
+    parts: TypedefParts<'_>,
     i: &Identifier,
     t: &CType,
 ) -> Result<(), Halt>
-    ensures { GivesWith (λ u. u) result file.new (type_named_lem specifiers.now base.now d.now i.now t.now file.old) }
+    ensures { GivesWith (λ u. u) result file.new (typedef_of_name_lem parts.entry.specifiers.now parts.entry.base.now parts.entry.declarator.now i.now t.now file.old) }
 {
-    judge_typedef(file, i, t)?;
-    let constant = is_constant(alloc, file, specifiers, base, d)?;
+    let may = file.is_new(&i.name);
+    judge_name(i, returns_well(t), may)?;
+    let constant = is_constant(alloc, file, parts)?;
     add_type(alloc, file, i, t, constant)?;
     Ok(())
 }
@@ -88,9 +76,14 @@ fn typedef(
 ) -> Result<(), Halt>
     ensures { GivesWith (λ u. u) result file.new (typedef_lem specifiers.now base.now d.now file.old) }
 {
-    let i = named(alloc, d)?;
-    let t = type_declared(alloc, file, base, d)?;
-    type_named(alloc, file, specifiers, base, d, &i, &t)
+    let i = declarator_name(alloc, d)?;
+    let t = declare_type(alloc, file, base, d)?;
+    let parts = TypedefParts {
+        specifiers,
+        base,
+        declarator: d,
+    };
+    typedef_of_name(alloc, file, parts, &i, &t)
 }
 
 /// The names of types of one base.

@@ -1,7 +1,7 @@
 //! What a file stands for, once all of it was read.
 ghost use Rattle.std.specs.Prelude.{◌≡◌, ◌++◌, ◌∷◌, [], IfOk, OnOk, reverse, map};
 ghost use Rattle.floyd_elab.specs.Units.{struct_of as struct_of_lem, unit_of as unit_of_lem};
-ghost use Rattle.floyd_elab.specs.Parts.{all_fields, not_among};
+ghost use Rattle.floyd_elab.specs.UnitClauses.{all_fields, not_among};
 
 use crate::file::File;
 use crate::tables::DefinedVariables;
@@ -13,7 +13,7 @@ use sqlite_items::Items;
 use std::alloc::{AllocError, Global};
 
 /// The same fields.
-fn shared_fields(alloc: Global, fields: &[Field]) -> Result<FieldList, AllocError>
+fn share_fields(alloc: Global, fields: &[Field]) -> Result<FieldList, AllocError>
     ensures { IfOk result (λ all. all ≡ fields.now) }
 {
     let mut all = Items::new(alloc);
@@ -35,7 +35,7 @@ fn fields_of(
     ensures { IfOk result (λ fields. fields ≡ all_fields structs.now tag.now) }
 {
     match structs.fields_of(&tag.name) {
-        Some(fields) => shared_fields(alloc, fields.as_slice()),
+        Some(fields) => share_fields(alloc, fields.as_slice()),
         None => Ok(Items::new(alloc)),
     }
 }
@@ -124,13 +124,7 @@ fn variables_of(
 fn unit_with(alloc: Global, file: File, structs: StructList) -> Result<ClightUnit, AllocError>
     ensures { IfOk result (λ unit. unit ≡ record (unit_of_lem file) { structs = structs }) }
 {
-    let File {
-        defined,
-        mentioned,
-        functions,
-        bodies,
-        ..
-    } = file;
+    let (defined, mentioned, functions, bodies) = file.into_parts();
     let variables = variables_of(alloc, defined, mentioned)?;
     Ok(ClightUnit {
         structs,

@@ -2,18 +2,17 @@
 ghost use Rattle.std.specs.Prelude.{◌≡◌, ◌&&◌, ◌||◌, OnOk, true, not, is_some};
 ghost use Rattle.floyd_elab_names.specs.declared.meaning.Meaning.TheVariants as m;
 ghost use Rattle.floyd_elab_names.specs.declared.meaning.Storage.TheVariants as kept;
-ghost use Rattle.floyd_elab_names.specs.Doing.{GivesWith};
+ghost use Rattle.floyd_elab_names.specs.Refusing.{GivesWith};
 ghost use Rattle.floyd_elab.specs.Files.{may_declare, has_variable, mention_variable as mention_variable_lem};
-ghost use Rattle.floyd_elab.specs.Parts.{variable_judged, variable_named as variable_named_lem};
-ghost use Rattle.floyd_elab.specs.Units.{contents_of as contents_of_lem, defined_if, variable as variable_lem};
+ghost use Rattle.floyd_elab.specs.Units.{contents_of as contents_of_lem, define_if as define_if_lem, variable_of_name as variable_of_name_lem, variable as variable_lem};
 
 use crate::file::File;
-use crate::sites::named;
+use crate::sites::{declarator_name, judge_name};
 use floyd_clight::{Initial, Variable};
 use floyd_cparse_trees::{Identifier, InitDeclarator, Initialiser};
 use floyd_ctypes::CType;
 use floyd_elab_data::contents;
-use floyd_elab_names::{Meaning, Storage, ill_typed, is_object_type, redeclared};
+use floyd_elab_names::{Meaning, Storage, is_object_type};
 use floyd_text::{Halt, Name, Place};
 use std::alloc::{AllocError, Global};
 
@@ -70,7 +69,7 @@ fn define(
     t: &CType,
     right: &Option<(Place, Initialiser)>,
 ) -> Result<(), Halt>
-    ensures { GivesWith (λ u. u) result file.new (defined_if true i.now t.now right.now file.old) }
+    ensures { GivesWith (λ u. u) result file.new (define_if_lem true i.now t.now right.now file.old) }
 {
     let first = contents_of(alloc, file, t, right)?;
     file.defined.add(Variable {
@@ -96,19 +95,6 @@ fn may_be_here(file: &File, x: &Name, t: &CType, defines: bool) -> bool
     file.may_declare_variable(x, t) && !(defines && file.defined.has(x))
 }
 
-/// Refuses a variable of that name and type that may not be declared, or not be defined where it is.
-fn judge_variable(file: &File, defines: bool, i: &Identifier, t: &CType) -> Result<(), Halt>
-    ensures { GivesWith (λ u. u) result file.now (variable_judged defines i.now t.now file.now) }
-{
-    if !is_object_type(&file.tags.structs, t) {
-        return Err(Halt::Refused(ill_typed(i.place)));
-    }
-    if !may_be_here(file, &i.name, t, defines) {
-        return Err(Halt::Refused(redeclared(i)?));
-    }
-    Ok(())
-}
-
 /// Defines a variable where that is its definition.
 fn define_if(
     alloc: Global,
@@ -118,7 +104,7 @@ fn define_if(
     t: &CType,
     right: &Option<(Place, Initialiser)>,
 ) -> Result<(), Halt>
-    ensures { GivesWith (λ u. u) result file.new (defined_if defines i.now t.now right.now file.old) }
+    ensures { GivesWith (λ u. u) result file.new (define_if_lem defines i.now t.now right.now file.old) }
 {
     if !defines {
         return Ok(());
@@ -127,7 +113,7 @@ fn define_if(
 }
 
 /// A variable of that name and type.
-fn variable_named(
+fn variable_of_name(
     alloc: Global,
     file: &mut File,
     defines: bool,
@@ -135,9 +121,11 @@ fn variable_named(
     t: &CType,
     right: &Option<(Place, Initialiser)>,
 ) -> Result<(), Halt>
-    ensures { GivesWith (λ u. u) result file.new (variable_named_lem defines i.now t.now right.now file.old) }
+    ensures { GivesWith (λ u. u) result file.new (variable_of_name_lem defines i.now t.now right.now file.old) }
 {
-    judge_variable(file, defines, i, t)?;
+    let fits = is_object_type(&file.tags.structs, t);
+    let may = may_be_here(file, &i.name, t, defines);
+    judge_name(i, fits, may)?;
     mention_variable(alloc, file, i, t)?;
     define_if(alloc, file, defines, i, t, right)
 }
@@ -152,7 +140,7 @@ pub(crate) fn variable(
 ) -> Result<(), Halt>
     ensures { GivesWith (λ u. u) result file.new (variable_lem external t.now d.now file.old) }
 {
-    let i = named(alloc, &d.declarator)?;
+    let i = declarator_name(alloc, &d.declarator)?;
     let defines = is_defined(external, d);
-    variable_named(alloc, file, defines, &i, t, &d.initialiser)
+    variable_of_name(alloc, file, defines, &i, t, &d.initialiser)
 }

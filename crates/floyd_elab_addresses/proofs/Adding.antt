@@ -1,6 +1,6 @@
 -- Names added to a set, one after the other.
 use Rattle.std.proofs.Common.{◌≡◌, ℕ, Bool, true, false, ◌||◌, List, ◌∷◌, refl, ap, sym, ◌∙◌}
-use Rattle.floyd_elab_addresses.specs.Sets.{is_among, Adds}
+use Rattle.floyd_elab_addresses.specs.SetClauses.{is_among, Adds}
 
 pub or-next : (p q s : Bool) → (q || (p || s)) ≡ (p || q || s)
 or-next true true s = refl

@@ -4,7 +4,6 @@ use Rattle.std.proofs.lemmas.List.{drop_more}
 use Rattle.std.specs.List.{list_any}
 use Rattle.floyd_text.specs.declared.place.Place.{Place}
 use Rattle.floyd_cparse_trees.specs.declared.types.Identifier.{Identifier}
-use Rattle.floyd_cparse_trees.specs.declared.types.TypeName.{TypeName}
 use Rattle.floyd_cparse_trees.specs.declared.expressions.BinaryOp.{BinaryOp}
 use Rattle.floyd_cparse_trees.specs.declared.expressions.CExpr as e
 use Rattle.floyd_cparse_trees.specs.declared.expressions.CExpr.TheBlock.{hidden-the_row-CExpr-0, hidden-the_row-CExpr-1, items_hidden-the_row-CExpr-1}
@@ -15,7 +14,7 @@ use Rattle.floyd_cparse_trees.specs.declared.expressions.PrefixOp.TheVariants.{A
 use Rattle.floyd_cparse_trees.specs.declared.expressions.StepOp.{StepOp}
 use denote.Hole.Carrier.{hidden}
 use Rattle.floyd_elab_addresses.specs.Addresses.{ends_in_address, is_variable, in_expression, in_arguments}
-use Rattle.floyd_elab_addresses.specs.Parts.{is_address}
+use Rattle.floyd_elab_addresses.specs.PartClauses.{is_address}
 use Rattle.floyd_elab_addresses.proofs.Adding.{or-next}
 
 -- the prefix that binds first is the last

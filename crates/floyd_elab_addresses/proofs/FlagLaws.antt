@@ -1,12 +1,12 @@
 -- A walk in the order of the text that takes a flag for each declarator takes the one that is meant for it.
-use Rattle.std.proofs.Common.{◌≡◌, ℕ, Bool, List, [], ◌∷◌, ◌++◌, append_assoc, refl, ap, sym, ◌∙◌}
+use Rattle.std.proofs.Common.{◌≡◌, ℕ, Bool, List, [], ◌∷◌, ◌++◌, append_assoc}
 use Rattle.floyd_cparse_trees.specs.declared.statements.BlockItem as i
 use Rattle.floyd_cparse_trees.specs.declared.statements.CStatement as c
 use Rattle.floyd_cparse_trees.specs.declared.statements.LocalDeclarator.{LocalDeclarator}
 use Rattle.floyd_elab_names.specs.Declarators.{name_of, name_or_none}
 use Rattle.floyd_elab_addresses.specs.Addresses.{in_items}
 use Rattle.floyd_elab_addresses.specs.Flags.{is_taken, declarator_flags, statement_flags, item_flags}
-use Rattle.floyd_elab_addresses.specs.Parts.{in_all, flags_of_all}
+use Rattle.floyd_elab_addresses.specs.PartClauses.{in_all, flags_of_all}
 
 -- Before declarators the flags are theirs and then `more`. The first is that of the first declarator, and those behind it
 -- are the flags before the next one.

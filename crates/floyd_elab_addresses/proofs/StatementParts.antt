@@ -1,5 +1,5 @@
 -- Statements as the program has them, of whose parts contracts see the values.
-use Rattle.std.proofs.Common.{◌≡◌, ℕ, ◌+◌, ◌<◌, Bool, false, ◌||◌, List, [], ◌∷◌, ◌++◌, length, get_or, drop, append_assoc, Option, refl, ap, sym, ◌∙◌}
+use Rattle.std.proofs.Common.{◌≡◌, ℕ, ◌+◌, ◌<◌, Bool, ◌||◌, List, [], ◌∷◌, ◌++◌, length, get_or, drop, append_assoc, Option, refl, ap, sym, ◌∙◌}
 use Rattle.std.proofs.lemmas.List.{drop_more}
 use Rattle.floyd_text.specs.declared.place.Place.{Place}
 use Rattle.floyd_cparse_trees.specs.declared.expressions.CExpr.{CExpr}
@@ -11,8 +11,8 @@ use Rattle.floyd_cparse_trees.specs.declared.statements.LocalDeclarator.{LocalDe
 use denote.Hole.Carrier.{hidden}
 use Rattle.floyd_elab_addresses.specs.Addresses.{in_expression, in_option, in_declarators, in_statement, in_items}
 use Rattle.floyd_elab_addresses.specs.Flags.{declarator_flags, statement_flags, item_flags, block_flags}
-use Rattle.floyd_elab_addresses.specs.Parts.{in_item, in_all, flags_of_item, flags_of_all}
-use Rattle.floyd_elab_addresses.specs.Sets.{is_among, Adds}
+use Rattle.floyd_elab_addresses.specs.PartClauses.{in_item, in_all, flags_of_item, flags_of_all}
+use Rattle.floyd_elab_addresses.specs.SetClauses.{is_among, Adds}
 
 -- the items of a block, in rows and in lists
 

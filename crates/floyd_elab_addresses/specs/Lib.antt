@@ -1,5 +1,5 @@
 -- Definitions that contracts cite.
 pub mod Addresses
 pub mod Flags
-pub mod Sets
-pub mod Parts
+pub mod SetClauses
+pub mod PartClauses

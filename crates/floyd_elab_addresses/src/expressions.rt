@@ -3,8 +3,8 @@ ghost use Rattle.std.specs.Prelude.{◌≡◌, ◌&&◌, ℕ, List, OnOk};
 ghost use Rattle.std.specs.List.{list_any};
 ghost use Rattle.std.specs.Option.{option_copied};
 ghost use Rattle.floyd_elab_addresses.specs.Addresses.{ends_in_address as ends_in_address_lem, is_named, is_variable, in_expression, in_initialiser, in_option};
-ghost use Rattle.floyd_elab_addresses.specs.Parts.{is_address as is_address_lem};
-ghost use Rattle.floyd_elab_addresses.specs.Sets.{Adds};
+ghost use Rattle.floyd_elab_addresses.specs.PartClauses.{is_address as is_address_lem};
+ghost use Rattle.floyd_elab_addresses.specs.SetClauses.{Adds};
 
 use crate::taken::Taken;
 use floyd_cparse_trees::{CExpr, Identifier, Prefix, PrefixOp};
@@ -21,7 +21,7 @@ impl Taken {
             CExpr::Name(_) | CExpr::Literal(_) | CExpr::SizeOf { .. } => Ok(()),
             CExpr::Parenthesised(inner) => self.expression(inner.get()),
             CExpr::Prefixed { prefixes, operand } => {
-                self.prefixed(prefixes.as_slice(), operand.get())?;
+                self.address(prefixes.as_slice(), operand.get())?;
                 self.expression(operand.get())
             }
             CExpr::PostfixStep { operand, .. } | CExpr::Member { operand, .. } => {
@@ -77,7 +77,7 @@ impl Taken {
     }
 
     /// Adds the variable that is the operand of these prefixes, where the last of them is `&`.
-    fn prefixed(&mut self, prefixes: &[Prefix], operand: &CExpr) -> Result<(), AllocError>
+    fn address(&mut self, prefixes: &[Prefix], operand: &CExpr) -> Result<(), AllocError>
         ensures { OnOk result (Adds (λ x. ends_in_address_lem prefixes.now && is_variable x operand.now) self.old self.new) }
     {
         if !ends_in_address(prefixes) {

@@ -4,10 +4,16 @@ use std::alloc::{AllocError, Global};
 use std::marker::Model;
 
 /// For each declared variable, in the order of the text, whether its address is taken.
-#[derive(Drop)]
 pub struct Flags {
     /// The last one first.
     flags: Vec<bool>,
+}
+
+impl Drop for Flags {
+    fn drop(self) {
+        let Flags { flags } = self;
+        drop(flags);
+    }
 }
 
 impl Model for Flags {

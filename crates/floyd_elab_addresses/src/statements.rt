@@ -2,8 +2,8 @@
 ghost use Rattle.std.specs.Prelude.{◌≡◌, ◌∷◌, [], ◌++◌, ℕ, List, IfOk, OnOk};
 ghost use Rattle.floyd_elab_addresses.specs.Addresses.{in_declarators, in_statement};
 ghost use Rattle.floyd_elab_addresses.specs.Flags.{block_flags, declarator_flags, statement_flags};
-ghost use Rattle.floyd_elab_addresses.specs.Parts.{in_all, in_item, flags_of_all, flags_of_item};
-ghost use Rattle.floyd_elab_addresses.specs.Sets.{is_among, Adds};
+ghost use Rattle.floyd_elab_addresses.specs.PartClauses.{in_all, in_item, flags_of_all, flags_of_item};
+ghost use Rattle.floyd_elab_addresses.specs.SetClauses.{is_among, Adds};
 
 use crate::flags::Flags;
 use crate::taken::Taken;

@@ -1,6 +1,6 @@
 //! Sets of names.
 ghost use Rattle.std.specs.Prelude.{◌≡◌, [], ℕ, List, OnOk, if◌then◌else◌, false, bytes_eq};
-ghost use Rattle.floyd_elab_addresses.specs.Sets.{is_among, Adds};
+ghost use Rattle.floyd_elab_addresses.specs.SetClauses.{is_among, Adds};
 
 use floyd_text::Name;
 use indexmap::IndexSet;
@@ -8,9 +8,15 @@ use std::alloc::{AllocError, Global};
 use std::marker::Model;
 
 /// The names of variables whose address is taken.
-#[derive(Drop)]
 pub struct Taken {
     names: IndexSet<Name>,
+}
+
+impl Drop for Taken {
+    fn drop(self) {
+        let Taken { names } = self;
+        drop(names);
+    }
 }
 
 impl Model for Taken {

@@ -20,20 +20,20 @@ use Rattle.floyd_cparse_trees.specs.declared.declarations.Initialiser.TheBlock.{
 use Rattle.floyd_clight.specs.declared.initial.Initial as initial
 use Rattle.floyd_clight.specs.declared.initial.Initial.{Initial}
 use Rattle.floyd_elab_names.specs.declared.tags.Tags.{Tags}
-use Rattle.floyd_elab_names.specs.Doing.{followed, ◌>>=◌, pure, or_refuse, unless}
+use Rattle.floyd_elab_names.specs.Refusing.{and_then, ◌>>=◌, pure, or_refuse, unless}
 use Rattle.floyd_elab_names.specs.Refusals.{ill_typed}
 use Rattle.floyd_elab_names.specs.Scopes.{Scopes}
 use Rattle.floyd_elab_names.specs.Typing.{Typing}
 use Rattle.floyd_elab_names.specs.Types.{is_scalar}
 use Rattle.floyd_elab_data.specs.Contents.{contents, parts_from, part_type, parts_of}
-use Rattle.floyd_elab_data.specs.Items.{parts_in, listed, nothing_listed}
+use Rattle.floyd_elab_data.specs.ItemClauses.{parts_in, list_parts, no_parts}
 
 -- behind the contents so far
 abbrev pub behind : List Initial → Result (List Initial × Tags) Refusal → Result (List Initial × Tags) Refusal
-behind parts rest = followed rest (λ more. pure (parts ++ more))
+behind parts rest = and_then rest (λ more. pure (parts ++ more))
 
 abbrev pub one_before : Initial → Result (List Initial × Tags) Refusal → Result (List Initial × Tags) Refusal
-one_before part rest = followed rest (λ more. pure (part ∷ more))
+one_before part rest = and_then rest (λ more. pure (part ∷ more))
 
 behind-one_before : (parts : List Initial) (part : Initial) (rest : Result (List Initial × Tags) Refusal) →
     behind parts (one_before part rest) ≡ behind (parts ++ part ∷ []) rest
@@ -44,8 +44,8 @@ behind-none : (rest : Result (List Initial × Tags) Refusal) → rest ≡ behind
 behind-none (Ok r) = refl
 behind-none (Err refusal) = refl
 
-stops_first : {A B : Type 0} (next : A → Tags → Result (B × Tags) Refusal) (halt : Halt) (r : Result (A × Tags) Refusal) → Stops halt r → Stops halt (followed r next)
-stops_first next (Refused refusal) r e = ap (λ x. followed x next) e
+stops_first : {A B : Type 0} (next : A → Tags → Result (B × Tags) Refusal) (halt : Halt) (r : Result (A × Tags) Refusal) → Stops halt r → Stops halt (and_then r next)
+stops_first next (Refused refusal) r e = ap (λ x. and_then x next) e
 stops_first next Memory r e = tt
 
 module _ (scopes : Scopes) (brace : Place) (t : CType) (s : Tags) where
@@ -65,16 +65,16 @@ module _ (scopes : Scopes) (brace : Place) (t : CType) (s : Tags) where
 
     module _ (item : Initialiser) (u : CType) (within : at < length items) (is : item ≡ get_or items at item) (fits : part_type s.structs t at ≡ Some u) where
       the_next : parts_in scopes brace t at (drop at items) s
-          ≡ followed (contents scopes brace u item s) (λ part. parts_in scopes brace t (at + 1) (drop (at + 1) items) >>= λ more. pure (part ∷ more))
+          ≡ and_then (contents scopes brace u item s) (λ part. parts_in scopes brace t (at + 1) (drop (at + 1) items) >>= λ more. pure (part ∷ more))
       the_next =
           ap (λ (rest : List Initialiser). parts_in scopes brace t at rest s) (drop_more items at item within)
-          ∙ ap (λ (w : Option CType). followed (or_refuse (ill_typed brace) w s) (λ v. contents scopes brace v (get_or items at item) >>= λ part. parts_in scopes brace t (at + 1) (drop (at + 1) items) >>= λ more. pure (part ∷ more))) fits
-          ∙ ap (λ (x : Initialiser). followed (contents scopes brace u x s) (λ part. parts_in scopes brace t (at + 1) (drop (at + 1) items) >>= λ more. pure (part ∷ more))) (sym is)
+          ∙ ap (λ (w : Option CType). and_then (or_refuse (ill_typed brace) w s) (λ v. contents scopes brace v (get_or items at item) >>= λ part. parts_in scopes brace t (at + 1) (drop (at + 1) items) >>= λ more. pure (part ∷ more))) fits
+          ∙ ap (λ (x : Initialiser). and_then (contents scopes brace u x s) (λ part. parts_in scopes brace t (at + 1) (drop (at + 1) items) >>= λ more. pure (part ∷ more))) (sym is)
 
       pub goes_on : (part : Initial) → contents scopes brace u item s ≡ Ok (part, s) → IsSoFar items (at + 1) (parts ++ part ∷ [])
       goes_on part e =
           so_far
-          ∙ ap (behind parts) (the_next ∙ ap (λ r. followed r (λ first. parts_in scopes brace t (at + 1) (drop (at + 1) items) >>= λ more. pure (first ∷ more))) e)
+          ∙ ap (behind parts) (the_next ∙ ap (λ r. and_then r (λ first. parts_in scopes brace t (at + 1) (drop (at + 1) items) >>= λ more. pure (first ∷ more))) e)
           ∙ behind-one_before parts part (parts_in scopes brace t (at + 1) (drop (at + 1) items) s)
 
       pub stops : (halt : Halt) → Stops halt (contents scopes brace u item s) → Stops halt (parts_in scopes brace t 0 items s)
@@ -85,29 +85,29 @@ module _ (scopes : Scopes) (brace : Place) (t : CType) (s : Tags) where
 
   module _ (items : List Initialiser) where
     -- where there are not too many
-    pub listed_within : nat_le (length items) (parts_of s.structs t) ≡ true → listed scopes brace t items s ≡ followed (parts_in scopes brace t 0 items s) (λ all. pure (initial.Parts all))
-    listed_within e = ap (λ b. followed (unless (ill_typed brace) b s) (λ w. parts_in scopes brace t 0 items >>= λ all. pure (initial.Parts all))) e
+    pub listed_within : nat_le (length items) (parts_of s.structs t) ≡ true → list_parts scopes brace t items s ≡ and_then (parts_in scopes brace t 0 items s) (λ all. pure (initial.Parts all))
+    listed_within e = ap (λ b. and_then (unless (ill_typed brace) b s) (λ w. parts_in scopes brace t 0 items >>= λ all. pure (initial.Parts all))) e
 
-    pub listed_beyond : nat_le (length items) (parts_of s.structs t) ≡ false → listed scopes brace t items s ≡ Err (ill_typed brace)
-    listed_beyond e = ap (λ b. followed (unless (ill_typed brace) b s) (λ w. parts_in scopes brace t 0 items >>= λ all. pure (initial.Parts all))) e
+    pub listed_beyond : nat_le (length items) (parts_of s.structs t) ≡ false → list_parts scopes brace t items s ≡ Err (ill_typed brace)
+    listed_beyond e = ap (λ b. and_then (unless (ill_typed brace) b s) (λ w. parts_in scopes brace t 0 items >>= λ all. pure (initial.Parts all))) e
 
     pub listed_whole : nat_le (length items) (parts_of s.structs t) ≡ true → (parts : List Initial) → parts_in scopes brace t 0 items s ≡ Ok (parts, s)
-        → listed scopes brace t items s ≡ Ok (initial.Parts parts, s)
-    listed_whole e parts f = listed_within e ∙ ap (λ r. followed r (λ all. pure (initial.Parts all))) f
+        → list_parts scopes brace t items s ≡ Ok (initial.Parts parts, s)
+    listed_whole e parts f = listed_within e ∙ ap (λ r. and_then r (λ all. pure (initial.Parts all))) f
 
-    pub listed_stops : nat_le (length items) (parts_of s.structs t) ≡ true → (halt : Halt) → Stops halt (parts_in scopes brace t 0 items s) → Stops halt (listed scopes brace t items s)
+    pub listed_stops : nat_le (length items) (parts_of s.structs t) ≡ true → (halt : Halt) → Stops halt (parts_in scopes brace t 0 items s) → Stops halt (list_parts scopes brace t items s)
     listed_stops e halt f = subst (Stops halt) (sym (listed_within e)) (stops_first (λ all. pure (initial.Parts all)) halt (parts_in scopes brace t 0 items s) f)
 
 -- The program's rows are lists.
 
 module _ (f g : Typing (List Initial)) (same : (s : Tags) → f s ≡ g s) where
-  then_more : (r : Result (Initial × Tags) Refusal) → followed r (λ part. f >>= λ more. pure (part ∷ more)) ≡ followed r (λ part. g >>= λ more. pure (part ∷ more))
+  then_more : (r : Result (Initial × Tags) Refusal) → and_then r (λ part. f >>= λ more. pure (part ∷ more)) ≡ and_then r (λ part. g >>= λ more. pure (part ∷ more))
   then_more (Ok r) = ap (one_before r.0) (same r.1)
   then_more (Err refusal) = refl
 
   then_part : (refusal : Refusal) (given : CType → Typing Initial) (w : Option CType) (s : Tags) →
-      followed (or_refuse refusal w s) (λ u. given u >>= λ part. f >>= λ more. pure (part ∷ more))
-      ≡ followed (or_refuse refusal w s) (λ u. given u >>= λ part. g >>= λ more. pure (part ∷ more))
+      and_then (or_refuse refusal w s) (λ u. given u >>= λ part. f >>= λ more. pure (part ∷ more))
+      ≡ and_then (or_refuse refusal w s) (λ u. given u >>= λ part. g >>= λ more. pure (part ∷ more))
   then_part refusal given (Some u) s = then_more (given u s)
   then_part refusal given None s = refl
 
@@ -127,33 +127,33 @@ module _ (scopes : Scopes) (brace : Place) (t : CType) where
       rows_are (hidden-the_row-Initialiser-0 items) 0 s ∙ ap (λ (l : List Initialiser). parts_in scopes brace t 0 l s) (items_hidden-the_row-Initialiser-0 items)
 
   rows_listed : (items : List Initialiser) (s : Tags) (b : Bool) →
-      followed (unless (ill_typed brace) b s) (λ w. parts_from scopes brace t 0 (hidden-the_row-Initialiser-0 items) >>= λ all. pure (initial.Parts all))
-      ≡ followed (unless (ill_typed brace) b s) (λ w. parts_in scopes brace t 0 items >>= λ all. pure (initial.Parts all))
-  rows_listed items s true = ap (λ r. followed r (λ all. pure (initial.Parts all))) (all_rows items s)
+      and_then (unless (ill_typed brace) b s) (λ w. parts_from scopes brace t 0 (hidden-the_row-Initialiser-0 items) >>= λ all. pure (initial.Parts all))
+      ≡ and_then (unless (ill_typed brace) b s) (λ w. parts_in scopes brace t 0 items >>= λ all. pure (initial.Parts all))
+  rows_listed items s true = ap (λ r. and_then r (λ all. pure (initial.Parts all))) (all_rows items s)
   rows_listed items s false = refl
 
-  pub contents_listed : (place : Place) (items : List Initialiser) (s : Tags) → is_scalar t ≡ false → contents scopes place t (i.List brace items) s ≡ listed scopes brace t items s
+  pub contents_listed : (place : Place) (items : List Initialiser) (s : Tags) → is_scalar t ≡ false → contents scopes place t (i.List brace items) s ≡ list_parts scopes brace t items s
   unfolding shape-the_row-Initialiser-0 hidden-the_row-Initialiser-0 hidden
   contents_listed place items s e =
-      let after : ℕ → Tags → Result (Initial × Tags) Refusal = λ n s'. followed (unless (ill_typed brace) (nat_le n (parts_of s.structs t)) s')
+      let after : ℕ → Tags → Result (Initial × Tags) Refusal = λ n s'. and_then (unless (ill_typed brace) (nat_le n (parts_of s.structs t)) s')
       (λ w. parts_from scopes brace t 0 (hidden-the_row-Initialiser-0 items) >>= λ all. pure (initial.Parts all)) in
-      ap (λ b. followed (unless (ill_typed place) (not b) s) (λ w. after (length (shape-the_row-Initialiser-0 items)))) e
+      ap (λ b. and_then (unless (ill_typed place) (not b) s) (λ w. after (length (shape-the_row-Initialiser-0 items)))) e
       ∙ ap (λ n. after n s) (shape_length items)
       ∙ rows_listed items s (nat_le (length items) (parts_of s.structs t))
 
-  pub nothing_given : (place : Place) (items : List Initialiser) (s : Tags) → is_scalar t ≡ false → parts_of s.structs t ≡ 0 → contents scopes place t (i.List brace items) s ≡ nothing_listed brace items s
+  pub nothing_given : (place : Place) (items : List Initialiser) (s : Tags) → is_scalar t ≡ false → parts_of s.structs t ≡ 0 → contents scopes place t (i.List brace items) s ≡ no_parts brace items s
   nothing_given place items s e f =
       contents_listed place items s e
-      ∙ ap (λ n. followed (unless (ill_typed brace) (nat_le (length items) n) s) (λ w. parts_in scopes brace t 0 items >>= λ all. pure (initial.Parts all))) f
+      ∙ ap (λ n. and_then (unless (ill_typed brace) (nat_le (length items) n) s) (λ w. parts_in scopes brace t 0 items >>= λ all. pure (initial.Parts all))) f
       ∙ by items (nat_le (length items) 0) refl
     where
       by : (items : List Initialiser) (b : Bool) → nat_le (length items) 0 ≡ b →
-          followed (unless (ill_typed brace) (nat_le (length items) 0) s) (λ w. parts_in scopes brace t 0 items >>= λ all. pure (initial.Parts all)) ≡ nothing_listed brace items s
+          and_then (unless (ill_typed brace) (nat_le (length items) 0) s) (λ w. parts_in scopes brace t 0 items >>= λ all. pure (initial.Parts all)) ≡ no_parts brace items s
       by [] b g = refl
       by (x ∷ xs) true g = absurd (let h = leb-true (length (x ∷ xs)) 0 g in omega arith)
       by (x ∷ xs) false g =
-          ap (λ b. followed (unless (ill_typed brace) b s) (λ w. parts_in scopes brace t 0 (x ∷ xs) >>= λ all. pure (initial.Parts all))) g
-          ∙ sym (ap (λ b. followed (unless (ill_typed brace) b s) (λ w. pure (initial.Parts []))) g)
+          ap (λ b. and_then (unless (ill_typed brace) b s) (λ w. parts_in scopes brace t 0 (x ∷ xs) >>= λ all. pure (initial.Parts all))) g
+          ∙ sym (ap (λ b. and_then (unless (ill_typed brace) b s) (λ w. pure (initial.Parts []))) g)
 
 -- of a struct's fields
 pub field_part : (structs : Structs) (tag : List ℕ) (fields : List Field) (at : ℕ) (f : Field) → fields ≡ unwrap_or (fields_of structs tag) [] → at < length fields

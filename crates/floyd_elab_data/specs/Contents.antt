@@ -7,17 +7,18 @@ use Rattle.floyd_int.specs.Kind.{repr_of, cast_of}
 use Rattle.floyd_ctypes.specs.declared.ctype.CType.{CType, Int, Pointer', Array', Struct, more_of-CType, end_of-CType}
 use Rattle.floyd_ctypes.specs.Structs.{Structs, fields_of}
 use Rattle.floyd_ctypes.specs.Layout.{size}
+use Rattle.floyd_cparse_trees.specs.declared.types.Identifier.{Identifier}
 use Rattle.floyd_cparse_trees.specs.declared.types.Literal.{Literal}
 use Rattle.floyd_cparse_trees.specs.declared.declarations.Constant.{Constant}
 use Rattle.floyd_cparse_trees.specs.declared.declarations.Constant.TheVariants as c
 use Rattle.floyd_cparse_trees.specs.declared.declarations.Initialiser as i
 use Rattle.floyd_elab_names.specs.Refusals.{ill_typed}
-use Rattle.floyd_elab_names.specs.Doing.{◌>>=◌, ◌>>◌, pure, refuse, unless, or_refuse}
+use Rattle.floyd_elab_names.specs.Refusing.{◌>>=◌, ◌>>◌, pure, refuse, unless, or_refuse}
 use Rattle.floyd_elab_names.specs.Typing.{Typing, the_structs}
 use Rattle.floyd_elab_names.specs.Scopes.{Scopes, meaning_of}
-use Rattle.floyd_elab_names.specs.Types.{pointer_to, is_function, is_scalar}
+use Rattle.floyd_elab_names.specs.Types.{pointer_to, is_function, is_scalar, has_size}
 use Rattle.floyd_ctyping.specs.Operators as o
-use Rattle.floyd_ctyping.specs.Expressions.{named}
+use Rattle.floyd_ctyping.specs.Expressions.{name_operand}
 use Rattle.floyd_clight.specs.declared.initial.Initial as initial
 use Rattle.floyd_clight.specs.declared.initial.Initial.{Initial}
 
@@ -53,20 +54,28 @@ part_type structs (Struct tag) at = option_map (λ f. f.ty) (slice_get (unwrap_o
 part_type structs t at = None
 
 module _ (scopes : Scopes) where
+  -- the type of the elements of the array of that name, which has a size as in `a[i]`
+  abbrev pub element_type : Place → Identifier → Typing CType
+  element_type bracket i = do
+    a ← name_operand i (meaning_of scopes i.name)
+    u ← or_refuse (ill_typed bracket) (element_of a.ctype)
+    structs ← the_structs
+    unless (ill_typed bracket) (has_size structs u)
+    pure u
+
   -- A name alone is that of an array or a function.
   abbrev pub constant : Place → CType → Constant → Typing Initial
   constant place t (c.Literal negative l) = literal_contents place t negative l
   constant place t (c.Name i) = do
-    a ← named i (meaning_of scopes i.name)
+    a ← name_operand i (meaning_of scopes i.name)
     unless (ill_typed place) ((is_array a.ctype || is_function a.ctype) && o.fits_into t a)
     pure (initial.Address i.name)
   constant place t (c.Address i) = do
-    a ← named i (meaning_of scopes i.name)
+    a ← name_operand i (meaning_of scopes i.name)
     unless (ill_typed place) (o.fits_into t (o.value_of_type (pointer_to a.ctype)))
     pure (initial.Address i.name)
   constant place t (c.Element i bracket index) = do
-    a ← named i (meaning_of scopes i.name)
-    u ← or_refuse (ill_typed bracket) (element_of a.ctype)
+    u ← element_type bracket i
     unless (ill_typed place) (o.fits_into t (o.value_of_type (pointer_to u)))
     structs ← the_structs
     pure (initial.Element i.name (index.value * unwrap_or (size structs u) 0))

@@ -1,4 +1,4 @@
 -- Definitions that contracts cite.
 pub mod Constant
 pub mod Contents
-pub mod Items
+pub mod ItemClauses

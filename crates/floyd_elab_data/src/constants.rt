@@ -1,23 +1,23 @@
 //! Contents that one constant gives.
-ghost use Rattle.std.specs.Prelude.{◌≡◌, ◌-◌, ◌^◌, ◌&&◌, ◌||◌, nat_le, pos, IfOk};
+ghost use Rattle.std.specs.Prelude.{◌≡◌, ◌-◌, ◌^◌, ◌&&◌, ◌||◌, nat_le, pos, IsTrue, IfOk};
 ghost use Rattle.std.specs.Option.{option_copied, unwrap_or};
 ghost use Rattle.floyd_text.specs.Gives.{Gives};
 ghost use Rattle.floyd_text.specs.declared.refusal.Halt.TheVariants.{Refused};
-ghost use Rattle.floyd_cparse_trees.specs.declared.declarations.Constant.TheVariants as written;
+ghost use Rattle.floyd_cparse_trees.specs.declared.declarations.Constant.TheVariants as constants;
 ghost use Rattle.floyd_cparse_trees.specs.declared.declarations.Initialiser.TheVariants as initialiser;
 ghost use Rattle.floyd_int.specs.Kind.{width as width_lem, is_signed as is_signed_lem, value_of as value_of_lem};
 ghost use Rattle.floyd_ctypes.specs.Layout.{size};
 ghost use Rattle.floyd_elab_names.specs.declared.tags.Tags.{Tags as Kept};
 ghost use Rattle.floyd_elab_names.specs.Refusals.{ill_typed as ill_typed_lem};
-ghost use Rattle.floyd_elab_names.specs.Types.{pointer_to as pointer_to_lem, is_function as is_function_lem};
+ghost use Rattle.floyd_elab_names.specs.Types.{has_size as has_size_lem, pointer_to as pointer_to_lem, is_function as is_function_lem};
 ghost use Rattle.floyd_ctyping.specs.Operators.{fits_into as fits_into_lem, value_of_type};
-ghost use Rattle.floyd_elab_data.specs.Contents.{signed_bits as signed_bits_lem, literal_contents as literal_contents_lem, element_of as element_of_lem, is_array as is_array_lem, constant as constant_lem, contents as contents_lem};
+ghost use Rattle.floyd_elab_data.specs.Contents.{element_type as element_type_lem, signed_bits as signed_bits_lem, literal_contents as literal_contents_lem, element_of as element_of_lem, is_array as is_array_lem, constant as constant_lem, contents as contents_lem};
 
 use floyd_clight::Initial;
 use floyd_cparse_trees::{Constant, Identifier, Literal};
 use floyd_ctypes::{CType, StructTable};
-use floyd_ctyping::{Operand, fits_into, named};
-use floyd_elab_names::{Names, Tags, ill_typed, is_function, is_scalar, pointer_to};
+use floyd_ctyping::{Operand, fits_into, name_operand};
+use floyd_elab_names::{Names, Tags, has_size, ill_typed, is_function, is_scalar, pointer_to};
 use floyd_int::{IntKind, repr};
 use floyd_text::{Halt, Place};
 use std::alloc::{AllocError, Global};
@@ -117,17 +117,15 @@ fn is_pointer_fit(alloc: Global, t: &CType, to: &CType) -> Result<bool, AllocErr
     fits_into(alloc, t, &Operand::value(pointer))
 }
 
-/// The size of a type in bytes, which is 0 where it has none. A type with an array that is larger than an object may be
-/// is no declared variable's, and its size may pass every integer: then this answers as if memory ran out.
-fn size_or_none(structs: &StructTable, t: &CType) -> Result<u64, AllocError>
-    ensures { IfOk result (λ n. n ≡ unwrap_or (size structs.now t.now) 0) }
+/// The size in bytes of a type that has one.
+#[tactic(auto, using(crate::proofs::ConstantLemmas::sized_fits))]
+fn size_in(structs: &StructTable, t: &CType) -> u64
+    requires { IsTrue (has_size_lem structs.now t.now) }
+    ensures { result ≡ unwrap_or (size structs.now t.now) 0 }
 {
-    if !structs.arrays_fit(t) {
-        return Err(AllocError);
-    }
     match structs.size_of(t) {
-        Some(bytes) => Ok(bytes),
-        None => Ok(0),
+        Some(bytes) => bytes,
+        None => 0,
     }
 }
 
@@ -139,9 +137,9 @@ fn name_contents(
     t: &CType,
     i: &Identifier,
 ) -> Result<Initial, Halt>
-    ensures exact { (tags : Kept) → Gives (λ x. (x, tags)) result (constant_lem names.now place t.now (written.Name i.now) tags) }
+    ensures exact { (tags : Kept) → Gives (λ x. (x, tags)) result (constant_lem names.now place t.now (constants.Name i.now) tags) }
 {
-    let a = named(alloc, i, names.meaning_of(&i.name))?;
+    let a = name_operand(alloc, i, names.meaning_of(&i.name))?;
     if !is_name_fit(alloc, t, &a)? {
         return Err(misfit(place));
     }
@@ -156,13 +154,42 @@ fn address_contents(
     t: &CType,
     i: &Identifier,
 ) -> Result<Initial, Halt>
-    ensures exact { (tags : Kept) → Gives (λ x. (x, tags)) result (constant_lem names.now place t.now (written.Address i.now) tags) }
+    ensures exact { (tags : Kept) → Gives (λ x. (x, tags)) result (constant_lem names.now place t.now (constants.Address i.now) tags) }
 {
-    let a = named(alloc, i, names.meaning_of(&i.name))?;
+    let a = name_operand(alloc, i, names.meaning_of(&i.name))?;
     if !is_pointer_fit(alloc, t, &a.ctype)? {
         return Err(misfit(place));
     }
     Ok(Initial::Address(i.name.share()?))
+}
+
+/// The type of the elements of the array of that name.
+fn element_type(
+    alloc: Global,
+    names: &Names,
+    tags: &Tags,
+    bracket: Place,
+    i: &Identifier,
+) -> Result<CType, Halt>
+    ensures exact { Gives (λ u. (u, tags.now)) result (element_type_lem names.now bracket i.now tags.now) }
+    ensures sized { IfOk result (λ u. IsTrue (has_size_lem tags.now.structs u)) }
+{
+    let a = name_operand(alloc, i, names.meaning_of(&i.name))?;
+    let Some(element) = element_of(&a.ctype) else {
+        return Err(misfit(bracket));
+    };
+    if !has_size(&tags.structs, element) {
+        return Err(misfit(bracket));
+    }
+    Ok(element.share(alloc)?)
+}
+
+/// An element of an array as it is written.
+#[derive(Clone, Copy)]
+struct Element<'a> {
+    array: &'a Identifier,
+    bracket: Place,
+    index: Literal,
 }
 
 /// The address of an element of an array.
@@ -172,21 +199,19 @@ fn element_contents(
     tags: &Tags,
     place: Place,
     t: &CType,
-    i: &Identifier,
-    bracket: Place,
-    index: Literal,
+    written: Element<'_>,
 ) -> Result<Initial, Halt>
-    ensures exact { Gives (λ x. (x, tags.now)) result (constant_lem names.now place t.now (written.Element i.now bracket index) tags.now) }
+    ensures exact { Gives (λ x. (x, tags.now)) result (constant_lem names.now place t.now (constants.Element written.entry.array.now written.entry.bracket written.entry.index) tags.now) }
 {
-    let a = named(alloc, i, names.meaning_of(&i.name))?;
-    let Some(element) = element_of(&a.ctype) else {
-        return Err(misfit(bracket));
-    };
-    if !is_pointer_fit(alloc, t, element)? {
+    let element = element_type(alloc, names, tags, written.bracket, written.array)?;
+    if !is_pointer_fit(alloc, t, &element)? {
         return Err(misfit(place));
     }
-    let bytes = size_or_none(&tags.structs, element)?;
-    Ok(Initial::Element(i.name.share()?, u128::from(index.value) * u128::from(bytes)))
+    let bytes = size_in(&tags.structs, &element);
+    Ok(Initial::Element(
+        written.array.name.share()?,
+        u128::from(written.index.value) * u128::from(bytes),
+    ))
 }
 
 /// The contents that a constant gives. What does not fit is ill typed at the given place.
@@ -210,7 +235,14 @@ fn constant_contents(
             array,
             place: bracket,
             index,
-        } => element_contents(alloc, names, tags, place, t, array, *bracket, *index),
+        } => {
+            let element = Element {
+                array,
+                bracket: *bracket,
+                index: *index,
+            };
+            element_contents(alloc, names, tags, place, t, element)
+        }
     }
 }
 

@@ -8,7 +8,7 @@ ghost use Rattle.floyd_cparse_trees.specs.declared.declarations.Initialiser.TheV
 ghost use Rattle.floyd_elab_names.specs.declared.tags.Tags.{Tags as Kept};
 ghost use Rattle.floyd_elab_names.specs.Types.{array_of};
 ghost use Rattle.floyd_elab_data.specs.Contents.{contents as contents_lem};
-ghost use Rattle.floyd_elab_data.specs.Items.{listed, nothing_listed};
+ghost use Rattle.floyd_elab_data.specs.ItemClauses.{list_parts, no_parts};
 
 use crate::constants::{misfit, scalar_contents};
 use floyd_clight::Initial;
@@ -51,8 +51,28 @@ fn contents_of(
         Initialiser::List {
             place: brace,
             items,
-        } => list_contents(alloc, names, tags, items.as_slice(), place, *brace, t),
+        } => {
+            let blame = Blame {
+                around: place,
+                brace: *brace,
+            };
+            list_contents(alloc, names, tags, items.as_slice(), blame, t)
+        }
     }
+}
+
+/// Where a list is blamed: around it where its type takes none, and at its brace.
+#[derive(Clone, Copy)]
+struct Blame {
+    around: Place,
+    brace: Place,
+}
+
+/// The elements of an array.
+#[derive(Clone, Copy)]
+struct Elements<'a> {
+    ctype: &'a CType,
+    number: u64,
 }
 
 /// The contents that a list gives an array or a struct.
@@ -62,25 +82,28 @@ fn list_contents(
     names: &Names,
     tags: &Tags,
     items: &[Initialiser],
-    place: Place,
-    brace: Place,
+    blame: Blame,
     t: &CType,
 ) -> Result<Initial, Halt>
-    ensures exact { Gives (λ c. (c, tags.now)) result (contents_lem names.now place t.now (written.List brace items.now) tags.now) }
+    ensures exact { Gives (λ c. (c, tags.now)) result (contents_lem names.now blame.around t.now (written.List blame.brace items.now) tags.now) }
 {
     match t {
-        CType::Int(_) | CType::Pointer(_) => Err(misfit(place)),
+        CType::Int(_) | CType::Pointer(_) => Err(misfit(blame.around)),
         CType::Array(element, number) => {
-            array_contents(alloc, names, tags, items, brace, element.get(), *number)
+            let elements = Elements {
+                ctype: element.get(),
+                number: *number,
+            };
+            array_contents(alloc, names, tags, items, blame.brace, elements)
         }
-        CType::Struct(tag) => struct_contents(alloc, names, tags, items, brace, tag),
-        CType::Void | CType::Function(_, _) => no_contents(alloc, items, brace),
+        CType::Struct(tag) => struct_contents(alloc, names, tags, items, blame.brace, tag),
+        CType::Void | CType::Function(_, _) => no_contents(alloc, items, blame.brace),
     }
 }
 
 /// What has no parts takes no items.
 fn no_contents(alloc: Global, items: &[Initialiser], brace: Place) -> Result<Initial, Halt>
-    ensures exact { (tags : Kept) → Gives (λ c. (c, tags)) result (nothing_listed brace items.now tags) }
+    ensures exact { (tags : Kept) → Gives (λ c. (c, tags)) result (no_parts brace items.now tags) }
 {
     if !items.is_empty() {
         return Err(misfit(brace));
@@ -96,17 +119,16 @@ fn array_contents(
     tags: &Tags,
     items: &[Initialiser],
     brace: Place,
-    element: &CType,
-    number: u64,
+    elements: Elements<'_>,
 ) -> Result<Initial, Halt>
-    ensures exact { Gives (λ c. (c, tags.now)) result (listed names.now brace (array_of element.now number) items.now tags.now) }
+    ensures exact { Gives (λ c. (c, tags.now)) result (list_parts names.now brace (array_of elements.entry.ctype.now elements.entry.number) items.now tags.now) }
 {
-    if items.len() as u64 > number {
+    if items.len() as u64 > elements.number {
         return Err(misfit(brace));
     }
     let mut parts = Items::new(alloc);
     'items: for item in items {
-        let part = contents_of(alloc, names, tags, item, brace, element)?;
+        let part = contents_of(alloc, names, tags, item, brace, elements.ctype)?;
         parts.push(part)?;
     }
     Ok(Initial::Parts(parts))
@@ -132,7 +154,7 @@ fn struct_contents(
     brace: Place,
     tag: &Name,
 ) -> Result<Initial, Halt>
-    ensures exact { Gives (λ c. (c, tags.now)) result (listed names.now brace (Struct tag.now) items.now tags.now) }
+    ensures exact { Gives (λ c. (c, tags.now)) result (list_parts names.now brace (Struct tag.now) items.now tags.now) }
 {
     let fields = fields_or_none(&tags.structs, tag);
     if items.len() > fields.len() {

@@ -1,3 +1,3 @@
 -- Definitions that contracts cite.
 pub mod Effects
-pub mod Calls
+pub mod CallClauses

@@ -1,30 +1,71 @@
-ghost use Rattle.std.specs.Prelude.{◌≡◌, List, [], None, Some, MatchOption, IfOk, option_and_then};
+ghost use Rattle.std.specs.Prelude.{◌≡◌, List, [], None, Some, MatchOption, option_and_then};
 ghost use Rattle.floyd_text.specs.Gives.{Gives};
-ghost use Rattle.floyd_elab_names.specs.Doing.{unless};
+ghost use Rattle.floyd_elab_names.specs.Refusing.{unless};
 ghost use Rattle.floyd_elab_names.specs.Refusals.{ill_typed as ill_typed_lem};
-ghost use Rattle.floyd_ctyping.specs.Operators.{with_count, signature_of, value_type as value_type_lem};
-ghost use Rattle.floyd_clight.specs.declared.syntax.Stmt.{Stmt};
+ghost use Rattle.floyd_ctyping.specs.Operators.{with_count, signature_of};
+ghost use Rattle.floyd_clight.specs.declared.syntax.Stmt.{Stmt as Stated, Call as CallOf};
 ghost use Rattle.floyd_elab_expressions.specs.Behind.{behind};
 ghost use Rattle.floyd_elab_expressions.specs.declared.progress.Progress.{Progress as Kept};
-ghost use Rattle.floyd_elab_effects.specs.Calls.{passed_one as passed_one_lem, passed_all as passed_all_lem, passed_to as passed_to_lem, fit_then, callee_then, call_of, signature_in, one_behind, all_behind, to_behind, call_behind, call_with};
+ghost use Rattle.floyd_elab_effects.specs.CallClauses.{one_argument as one_argument_lem, all_arguments as all_arguments_lem, arguments_to as arguments_to_lem, fit_then, callee_then, call_of, signature_in, one_behind, all_behind, to_behind, call_behind, call_with};
 
-use crate::translations::valued;
-use floyd_clight::{Expr, ExprList, StmtList};
+use floyd_clight::{Expr, ExprList, Stmt, StmtList};
 use floyd_cparse_trees::CExpr;
 use floyd_ctypes::CType;
 use floyd_ctyping::fits_into;
-use floyd_elab_expressions::{Progress, Translation, cast_into};
+use floyd_elab_expressions::{Progress, Translation, cast_into, rvalue};
 use floyd_elab_names::{Names, ill_typed, pointee};
-use floyd_text::{Halt, Place, Shared};
+use floyd_text::{Halt, Name, Place};
 use sqlite_items::Items;
-use std::alloc::{AllocError, Global};
+use std::alloc::Global;
+
+/// A call as it is written: what is called, the place of its parenthesis, and what is passed.
+#[derive(Clone, Copy)]
+pub(crate) struct CallForm<'a> {
+    pub(crate) function: &'a CExpr,
+    pub(crate) place: Place,
+    pub(crate) arguments: &'a [CExpr],
+}
+
+/// The type of a parameter, and the place of the call's parenthesis.
+#[derive(Clone, Copy)]
+struct Parameter<'a> {
+    place: Place,
+    ctype: &'a CType,
+}
 
 /// What is called, what is passed, and the type of the result. The statements before the call stand elsewhere.
-#[derive(Drop)]
 pub(crate) struct CallParts {
-    pub(crate) callee: Shared<Expr>,
+    pub(crate) callee: Expr,
     pub(crate) arguments: ExprList,
-    pub(crate) result: Shared<CType>,
+    pub(crate) result: CType,
+}
+
+impl CallParts {
+    /// The call, which sets this temporary.
+    pub(crate) fn into_statement(self, x: Option<Name>) -> Stmt
+        ensures { result ≡ CallOf x self.callee self.arguments }
+    {
+        let CallParts {
+            callee,
+            arguments,
+            result,
+        } = self;
+        drop(result);
+        Stmt::Call(x, callee, arguments)
+    }
+}
+
+impl Drop for CallParts {
+    fn drop(self) {
+        let CallParts {
+            callee,
+            arguments,
+            result,
+        } = self;
+        drop(callee);
+        drop(arguments);
+        drop(result);
+    }
 }
 
 /// Refuses what does not fit as ill typed at this place.
@@ -42,33 +83,30 @@ pub(crate) fn judge(place: Place, fits: bool) -> Result<(), Halt>
 pub(crate) fn calling(
     alloc: Global,
     names: &Names,
-    function: &CExpr,
-    place: Place,
-    arguments: &[CExpr],
+    form: CallForm<'_>,
     progress: &mut Progress,
     out: &mut StmtList,
 ) -> Result<CallParts, Halt>
-    ensures exact { Gives (λ c. (call_with out.new c, progress.new)) result (call_behind out.old (call_of names.now function.now place arguments.now progress.old)) }
+    ensures exact { Gives (λ c. (call_with out.new c, progress.new)) result (call_behind out.old (call_of names.now form.entry.function.now form.entry.place form.entry.arguments.now progress.old)) }
 {
-    let f = valued(alloc, names, function, progress, out)?;
-    called(alloc, names, place, f.get(), arguments, progress, out)
+    let f = rvalue(alloc, names, form.function, progress, out)?;
+    call_through(alloc, names, form, &f, progress, out)
 }
 
 /// A call of what was translated.
-fn called(
+fn call_through(
     alloc: Global,
     names: &Names,
-    place: Place,
+    form: CallForm<'_>,
     f: &Translation,
-    arguments: &[CExpr],
     progress: &mut Progress,
     out: &mut StmtList,
 ) -> Result<CallParts, Halt>
-    ensures exact { Gives (λ c. (call_with out.new c, progress.new)) result (callee_then names.now place arguments.now (behind out.old f.now) progress.old) }
+    ensures exact { Gives (λ c. (call_with out.new c, progress.new)) result (callee_then names.now form.entry.place form.entry.arguments.now (behind out.old f.now) progress.old) }
 {
-    let callee = callee_of(alloc, f)?;
-    let t = value_type(alloc, f)?;
-    let (passed, result) = passed_to(alloc, names, place, t.get(), arguments, progress, out)?;
+    let callee = f.expr.share(alloc)?;
+    let t = f.operand.value_type(alloc)?;
+    let (passed, result) = arguments_to(alloc, names, form, &t, progress, out)?;
     Ok(CallParts {
         callee,
         arguments: passed,
@@ -76,49 +114,24 @@ fn called(
     })
 }
 
-/// What is called.
-fn callee_of(alloc: Global, f: &Translation) -> Result<Shared<Expr>, AllocError>
-    ensures { IfOk result (λ e. e ≡ f.now.expr) }
-{
-    let e = f.expr.share(alloc)?;
-    Shared::new(alloc, e)
-}
-
-/// The type of its value.
-fn value_type(alloc: Global, a: &Translation) -> Result<Shared<CType>, AllocError>
-    ensures { IfOk result (λ t. t ≡ value_type_lem a.now.operand) }
-{
-    let t = a.operand.value_type(alloc)?;
-    Shared::new(alloc, t)
-}
-
-/// The same type, shared.
-fn shared(alloc: Global, t: &CType) -> Result<Shared<CType>, AllocError>
-    ensures { IfOk result (λ u. u ≡ t.now) }
-{
-    let t = t.share(alloc)?;
-    Shared::new(alloc, t)
-}
-
 /// What is passed to what a value of this type calls, and the type of the result.
-fn passed_to(
+fn arguments_to(
     alloc: Global,
     names: &Names,
-    place: Place,
+    form: CallForm<'_>,
     t: &CType,
-    arguments: &[CExpr],
     progress: &mut Progress,
     out: &mut StmtList,
-) -> Result<(ExprList, Shared<CType>), Halt>
-    ensures exact { Gives (λ r. (((out.new, r.0), r.1), progress.new)) result (to_behind out.old (passed_to_lem names.now place t.now arguments.now progress.old)) }
+) -> Result<(ExprList, CType), Halt>
+    ensures exact { Gives (λ r. (((out.new, r.0), r.1), progress.new)) result (to_behind out.old (arguments_to_lem names.now form.entry.place t.now form.entry.arguments.now progress.old)) }
 {
-    match signature(t, arguments.len()) {
+    match signature(t, form.arguments.len()) {
         Some((parameters, result)) => {
-            let own = shared(alloc, result)?;
-            let all = passed_all(alloc, names, place, parameters, arguments, progress, out)?;
+            let own = result.share(alloc)?;
+            let all = all_arguments(alloc, names, form, parameters, progress, out)?;
             Ok((all, own))
         }
-        None => Err(Halt::Refused(ill_typed(place))),
+        None => Err(Halt::Refused(ill_typed(form.place))),
     }
 }
 
@@ -150,51 +163,53 @@ fn function_signature(t: &CType, count: usize) -> Option<(&[CType], &CType)>
 }
 
 /// Arguments for parameters of these types.
-fn passed_all(
+fn all_arguments(
     alloc: Global,
     names: &Names,
-    place: Place,
+    form: CallForm<'_>,
     parameters: &[CType],
-    arguments: &[CExpr],
     progress: &mut Progress,
     out: &mut StmtList,
 ) -> Result<ExprList, Halt>
-    ensures exact { Gives (λ all. ((out.new, all), progress.new)) result (all_behind out.old [] (passed_all_lem names.now place parameters.now arguments.now progress.old)) }
+    ensures exact { Gives (λ all. ((out.new, all), progress.new)) result (all_behind out.old [] (all_arguments_lem names.now form.entry.place parameters.now form.entry.arguments.now progress.old)) }
 {
     let mut all = Items::new(alloc);
     let mut left = parameters;
-    'arguments: for argument in arguments {
-        let Some((t, more)) = left.split_first() else {
+    'arguments: for argument in form.arguments {
+        let Some((ctype, more)) = left.split_first() else {
             return Ok(all);
         };
-        let passed = passed_one(alloc, names, place, t, argument, progress, out)?;
+        let parameter = Parameter {
+            place: form.place,
+            ctype,
+        };
+        let passed = one_argument(alloc, names, parameter, argument, progress, out)?;
         all.push(passed)?;
         left = more;
     }
     Ok(all)
 }
 
-/// An argument for a parameter of that type. Its fit is judged directly behind it, at the call's parenthesis.
-fn passed_one(
+/// An argument for a parameter. Its fit is judged directly behind it, at the call's parenthesis.
+fn one_argument(
     alloc: Global,
     names: &Names,
-    place: Place,
-    t: &CType,
+    parameter: Parameter<'_>,
     argument: &CExpr,
     progress: &mut Progress,
     out: &mut StmtList,
 ) -> Result<Expr, Halt>
-    ensures exact { Gives (λ e. ((out.new, e), progress.new)) result (one_behind out.old (passed_one_lem names.now place t.now argument.now progress.old)) }
+    ensures exact { Gives (λ e. ((out.new, e), progress.new)) result (one_behind out.old (one_argument_lem names.now parameter.entry.place parameter.entry.ctype.now argument.now progress.old)) }
 {
-    let a = valued(alloc, names, argument, progress, out)?;
-    fitted(alloc, place, t, a.get())
+    let a = rvalue(alloc, names, argument, progress, out)?;
+    fit_argument(alloc, parameter, &a)
 }
 
 /// What is passed for a value that was translated.
-fn fitted(alloc: Global, place: Place, t: &CType, a: &Translation) -> Result<Expr, Halt>
-    ensures exact { (before : List Stmt) (progress : Kept) → Gives (λ e. ((before, e), progress)) result (fit_then place t.now (behind before a.now) progress) }
+fn fit_argument(alloc: Global, parameter: Parameter<'_>, a: &Translation) -> Result<Expr, Halt>
+    ensures exact { (before : List Stated) (progress : Kept) → Gives (λ e. ((before, e), progress)) result (fit_then parameter.entry.place parameter.entry.ctype.now (behind before a.now) progress) }
 {
-    let fits = fits_into(alloc, t, &a.operand)?;
-    judge(place, fits)?;
-    Ok(cast_into(alloc, t, a)?)
+    let fits = fits_into(alloc, parameter.ctype, &a.operand)?;
+    judge(parameter.place, fits)?;
+    Ok(cast_into(alloc, parameter.ctype, a)?)
 }

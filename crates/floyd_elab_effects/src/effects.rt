@@ -1,30 +1,53 @@
 //! Assignments, steps and calls, and the right sides of assignments.
 ghost use Rattle.std.specs.Prelude.{◌≡◌, List, [], ◌∷◌, ◌++◌, None as Plain, IfOk};
 ghost use Rattle.floyd_clight.specs.declared.syntax.Stmt.{Stmt, Call};
-ghost use Rattle.floyd_clight.specs.declared.syntax.Expr.{Temp};
 ghost use Rattle.floyd_text.specs.Gives.{Gives};
 ghost use Rattle.floyd_cparse_trees.specs.declared.expressions.CExpr.{Assign as AssignTo, Prefixed as PrefixedBy, PostfixStep as StepBehind, Call as CallOf};
-ghost use Rattle.floyd_ctyping.specs.Operators.{value_of_type};
 ghost use Rattle.floyd_elab_names.specs.Scopes.{Scopes};
 ghost use Rattle.floyd_elab_expressions.specs.declared.progress.Progress.{Progress as Kept};
-ghost use Rattle.floyd_elab_expressions.specs.Behind.{behind, onto, appended};
+ghost use Rattle.floyd_elab_expressions.specs.Behind.{behind, onto, put_behind};
 ghost use Rattle.floyd_elab_expressions.specs.Clight.{cast_into as cast_into_lem, store as store_lem};
 ghost use Rattle.floyd_elab_expressions.specs.Progress.{pull};
-ghost use Rattle.floyd_elab_expressions.specs.Expressions.{valued as valued_lem};
-ghost use Rattle.floyd_elab_effects.specs.Calls.{operation_sent, call_with, targeted, prefix_step};
-ghost use Rattle.floyd_elab_effects.specs.Effects.{sent_to, updated as updated_lem, step_op as step_op_lem, literal_one as literal_one_lem, stepped as stepped_lem, call_result as call_result_lem, assignment as assignment_lem, assigned_first, right_side as right_side_lem, effect as effect_lem};
+ghost use Rattle.floyd_elab_expressions.specs.Expressions.{rvalue as rvalue_lem};
+ghost use Rattle.floyd_elab_effects.specs.CallClauses.{send_operation as send_operation_lem, call_with, on_target};
+ghost use Rattle.floyd_elab_effects.specs.Effects.{send_to, update as update_lem, step_op as step_op_lem, literal_one as literal_one_lem, step_effect as step_effect_lem, call_result as call_result_lem, assignment as assignment_lem, first_assignment, right_side as right_side_lem, effect as effect_lem};
 
-use crate::calls::{CallParts, calling, judge};
-use crate::translations::{binary_operator, prefixed, read, translated, valued};
+use crate::calls::{CallForm, CallParts, calling, judge};
 use floyd_clight::{Expr, Stmt, StmtList};
 use floyd_cparse_trees::{CExpr, Prefix, StepOp};
 use floyd_ctypes::CType;
 use floyd_ctyping::{Operand, fits_into, is_target};
-use floyd_elab_expressions::{Progress, Translation, cast_into, one, store};
+use floyd_elab_expressions::{
+    Progress, Translation, binary_operator, cast_into, expression, one, read, rvalue, store,
+    with_prefixes,
+};
 use floyd_elab_names::Names;
 use floyd_int::{IntKind, IntOp};
-use floyd_text::{Halt, Name, Place, Shared};
+use floyd_text::{Halt, Name, Place};
 use std::alloc::{AllocError, Global};
+
+/// What an assignment goes to, and the place of its operator.
+#[derive(Clone, Copy)]
+pub struct Destination<'a> {
+    pub place: Place,
+    pub target: &'a Translation,
+}
+
+/// An assignment as it is written.
+#[derive(Clone, Copy)]
+struct Assignment<'a> {
+    target: &'a CExpr,
+    op: Option<IntOp>,
+    place: Place,
+    value: &'a CExpr,
+}
+
+/// `++` or `--`, and its place.
+#[derive(Clone, Copy)]
+struct Step {
+    op: StepOp,
+    place: Place,
+}
 
 /// An effect: an assignment, a step or a call. Its statements go to the end of `out`.
 pub fn effect(
@@ -34,7 +57,7 @@ pub fn effect(
     progress: &mut Progress,
     out: &mut StmtList,
 ) -> Result<(), Halt>
-    ensures exact { Gives (λ u. (out.new, progress.new)) result (appended out.old (effect_lem names.now e.now progress.old)) }
+    ensures exact { Gives (λ u. (out.new, progress.new)) result (put_behind out.old (effect_lem names.now e.now progress.old)) }
 {
     match e {
         CExpr::Assign {
@@ -42,18 +65,21 @@ pub fn effect(
             op,
             place,
             value,
-        } => assign(
-            alloc,
-            names,
-            target.get(),
-            *op,
-            *place,
-            value.get(),
-            progress,
-            out,
-        ),
+        } => {
+            let parts = Assignment {
+                target: target.get(),
+                op: *op,
+                place: *place,
+                value: value.get(),
+            };
+            assign(alloc, names, parts, progress, out)
+        }
         CExpr::PostfixStep { operand, op, place } => {
-            postfix_effect(alloc, names, operand.get(), *op, *place, progress, out)
+            let step = Step {
+                op: *op,
+                place: *place,
+            };
+            postfix_effect(alloc, names, step, operand.get(), progress, out)
         }
         CExpr::Prefixed { prefixes, operand } => prefix_effect(
             alloc,
@@ -67,15 +93,14 @@ pub fn effect(
             function,
             place,
             arguments,
-        } => lone_call(
-            alloc,
-            names,
-            function.get(),
-            *place,
-            arguments.as_slice(),
-            progress,
-            out,
-        ),
+        } => {
+            let form = CallForm {
+                function: function.get(),
+                place: *place,
+                arguments: arguments.as_slice(),
+            };
+            lone_call(alloc, names, form, progress, out)
+        }
         CExpr::Name(_)
         | CExpr::Literal(_)
         | CExpr::Parenthesised(_)
@@ -94,7 +119,7 @@ pub fn right_side(
     e: &CExpr,
     progress: &mut Progress,
     out: &mut StmtList,
-) -> Result<Shared<Translation>, Halt>
+) -> Result<Translation, Halt>
     ensures exact { Gives (λ a. (behind out.new a, progress.new)) result (onto out.old (right_side_lem names.now e.now progress.old)) }
 {
     match e {
@@ -102,15 +127,14 @@ pub fn right_side(
             function,
             place,
             arguments,
-        } => used_call(
-            alloc,
-            names,
-            function.get(),
-            *place,
-            arguments.as_slice(),
-            progress,
-            out,
-        ),
+        } => {
+            let form = CallForm {
+                function: function.get(),
+                place: *place,
+                arguments: arguments.as_slice(),
+            };
+            used_call(alloc, names, form, progress, out)
+        }
         CExpr::Name(_)
         | CExpr::Literal(_)
         | CExpr::Parenthesised(_)
@@ -121,7 +145,7 @@ pub fn right_side(
         | CExpr::Member { .. }
         | CExpr::Binary { .. }
         | CExpr::Conditional { .. }
-        | CExpr::Assign { .. } => valued(alloc, names, e, progress, out),
+        | CExpr::Assign { .. } => rvalue(alloc, names, e, progress, out),
     }
 }
 
@@ -129,52 +153,53 @@ pub fn right_side(
 pub fn assign_first(
     alloc: Global,
     names: &Names,
-    place: Place,
-    target: &Translation,
+    to: Destination<'_>,
     e: &CExpr,
     progress: &mut Progress,
     out: &mut StmtList,
 ) -> Result<(), Halt>
-    ensures exact { Gives (λ u. (out.new, progress.new)) result (appended out.old (assigned_first names.now place e.now (behind [] target.now) progress.old)) }
+    ensures exact { Gives (λ u. (out.new, progress.new)) result (put_behind out.old (first_assignment names.now to.entry.place e.now (behind [] to.entry.target.now) progress.old)) }
 {
-    judge(place, is_target(&target.operand))?;
-    assigned(alloc, names, place, e, target, progress, out)
+    judge(to.place, is_target(&to.target.operand))?;
+    simple_assignment(alloc, names, to, e, progress, out)
 }
 
 /// `lv = r` and `lv op= r`.
 fn assign(
     alloc: Global,
     names: &Names,
-    target: &CExpr,
-    op: Option<IntOp>,
-    place: Place,
-    value: &CExpr,
+    parts: Assignment<'_>,
     progress: &mut Progress,
     out: &mut StmtList,
 ) -> Result<(), Halt>
-    ensures exact { Gives (λ u. (out.new, progress.new)) result (appended out.old (effect_lem names.now (AssignTo target.now op place value.now) progress.old)) }
+    ensures exact { Gives (λ u. (out.new, progress.new)) result (put_behind out.old (effect_lem names.now (AssignTo parts.entry.target.now parts.entry.op parts.entry.place parts.entry.value.now) progress.old)) }
 {
-    let target = translated(alloc, names, target, progress, out)?;
-    assign_to(alloc, names, op, place, value, target.get(), progress, out)
+    let target = expression(alloc, names, parts.target, progress, out)?;
+    assign_to(alloc, names, parts, &target, progress, out)
 }
 
 /// An assignment to what was translated, which is judged before what is assigned.
 fn assign_to(
     alloc: Global,
     names: &Names,
-    op: Option<IntOp>,
-    place: Place,
-    value: &CExpr,
+    parts: Assignment<'_>,
     target: &Translation,
     progress: &mut Progress,
     out: &mut StmtList,
 ) -> Result<(), Halt>
-    ensures exact { Gives (λ u. (out.new, progress.new)) result (targeted place (assignment_lem names.now place op value.now) (behind out.old target.now) progress.old) }
+    ensures exact { Gives (λ u. (out.new, progress.new)) result (on_target parts.entry.place (assignment_lem names.now parts.entry.place parts.entry.op parts.entry.value.now) (behind out.old target.now) progress.old) }
 {
-    judge(place, is_target(&target.operand))?;
-    match op {
-        None => assigned(alloc, names, place, value, target, progress, out),
-        Some(op) => updated(alloc, names, op, place, target, value, progress, out),
+    judge(parts.place, is_target(&target.operand))?;
+    let to = Destination {
+        place: parts.place,
+        target,
+    };
+    match parts.op {
+        None => simple_assignment(alloc, names, to, parts.value, progress, out),
+        Some(op) => {
+            let operation = Operation { op, to };
+            update(alloc, names, operation, parts.value, progress, out)
+        }
     }
 }
 
@@ -182,16 +207,15 @@ fn assign_to(
 fn postfix_effect(
     alloc: Global,
     names: &Names,
+    step: Step,
     operand: &CExpr,
-    op: StepOp,
-    place: Place,
     progress: &mut Progress,
     out: &mut StmtList,
 ) -> Result<(), Halt>
-    ensures exact { Gives (λ u. (out.new, progress.new)) result (appended out.old (effect_lem names.now (StepBehind operand.now op place) progress.old)) }
+    ensures exact { Gives (λ u. (out.new, progress.new)) result (put_behind out.old (effect_lem names.now (StepBehind operand.now step.op step.place) progress.old)) }
 {
-    let target = translated(alloc, names, operand, progress, out)?;
-    stepped(alloc, op, place, target.get(), progress, out)
+    let target = expression(alloc, names, operand, progress, out)?;
+    step_effect(alloc, step, &target, progress, out)
 }
 
 /// `++` and `--` before an operand. Other prefixes are no effect.
@@ -203,50 +227,36 @@ fn prefix_effect(
     progress: &mut Progress,
     out: &mut StmtList,
 ) -> Result<(), Halt>
-    ensures exact { Gives (λ u. (out.new, progress.new)) result (appended out.old (effect_lem names.now (PrefixedBy prefixes.now operand.now) progress.old)) }
+    ensures exact { Gives (λ u. (out.new, progress.new)) result (put_behind out.old (effect_lem names.now (PrefixedBy prefixes.now operand.now) progress.old)) }
 {
     let Some((first, rest)) = prefixes.split_first() else {
         return Ok(());
     };
     match first {
         Prefix::Step(op, place) => {
-            step_behind(alloc, names, *op, *place, rest, operand, progress, out)
+            let step = Step {
+                op: *op,
+                place: *place,
+            };
+            let target = with_prefixes(alloc, names, rest, operand, progress, out)?;
+            step_effect(alloc, step, &target, progress, out)
         }
         Prefix::Op(_, _) | Prefix::Cast(_, _) => Ok(()),
     }
-}
-
-/// `++` and `--` before an operand with more before it.
-fn step_behind(
-    alloc: Global,
-    names: &Names,
-    op: StepOp,
-    place: Place,
-    rest: &[Prefix],
-    operand: &CExpr,
-    progress: &mut Progress,
-    out: &mut StmtList,
-) -> Result<(), Halt>
-    ensures exact { Gives (λ u. (out.new, progress.new)) result (appended out.old (prefix_step names.now op place rest.now operand.now progress.old)) }
-{
-    let target = prefixed(alloc, names, rest, operand, progress, out)?;
-    stepped(alloc, op, place, target.get(), progress, out)
 }
 
 /// A call whose result is not used.
 fn lone_call(
     alloc: Global,
     names: &Names,
-    function: &CExpr,
-    place: Place,
-    arguments: &[CExpr],
+    form: CallForm<'_>,
     progress: &mut Progress,
     out: &mut StmtList,
 ) -> Result<(), Halt>
-    ensures exact { Gives (λ u. (out.new, progress.new)) result (appended out.old (effect_lem names.now (CallOf function.now place arguments.now) progress.old)) }
+    ensures exact { Gives (λ u. (out.new, progress.new)) result (put_behind out.old (effect_lem names.now (CallOf form.entry.function.now form.entry.place form.entry.arguments.now) progress.old)) }
 {
-    let call = calling(alloc, names, function, place, arguments, progress, out)?;
-    push_call(alloc, None, call, out)?;
+    let call = calling(alloc, names, form, progress, out)?;
+    push_call(None, call, out)?;
     Ok(())
 }
 
@@ -254,15 +264,13 @@ fn lone_call(
 fn used_call(
     alloc: Global,
     names: &Names,
-    function: &CExpr,
-    place: Place,
-    arguments: &[CExpr],
+    form: CallForm<'_>,
     progress: &mut Progress,
     out: &mut StmtList,
-) -> Result<Shared<Translation>, Halt>
-    ensures exact { Gives (λ a. (behind out.new a, progress.new)) result (onto out.old (right_side_lem names.now (CallOf function.now place arguments.now) progress.old)) }
+) -> Result<Translation, Halt>
+    ensures exact { Gives (λ a. (behind out.new a, progress.new)) result (onto out.old (right_side_lem names.now (CallOf form.entry.function.now form.entry.place form.entry.arguments.now) progress.old)) }
 {
-    let call = calling(alloc, names, function, place, arguments, progress, out)?;
+    let call = calling(alloc, names, form, progress, out)?;
     call_result(alloc, call, progress, out)
 }
 
@@ -272,113 +280,95 @@ fn call_result(
     call: CallParts,
     progress: &mut Progress,
     out: &mut StmtList,
-) -> Result<Shared<Translation>, Halt>
+) -> Result<Translation, Halt>
     ensures exact { (scopes : Scopes) → Gives (λ a. (behind out.new a, progress.new)) result (call_result_lem scopes (call_with out.old call) progress.old) }
 {
-    let t = call.result.share()?;
-    let x = pulled(alloc, &t, progress)?;
+    let t = call.result.share(alloc)?;
+    let x = draw_temporary(alloc, &t, progress)?;
     let name = x.share()?;
-    push_call(alloc, Some(name), call, out)?;
-    let a = temporary(alloc, x, &t)?;
-    Ok(a)
+    push_call(Some(name), call, out)?;
+    let own = t.share(alloc)?;
+    Ok(Translation {
+        expr: Expr::Temp(x, own),
+        operand: Operand::value(t),
+    })
 }
 
 /// A temporary of the next number.
-fn pulled(alloc: Global, t: &Shared<CType>, progress: &mut Progress) -> Result<Name, Halt>
+fn draw_temporary(alloc: Global, t: &CType, progress: &mut Progress) -> Result<Name, Halt>
     ensures exact { Gives (λ x. (x, progress.new)) result (pull t.now progress.old) }
 {
-    let own = t.get().share(alloc)?;
+    let own = t.share(alloc)?;
     progress.pull(alloc, own)
 }
 
-/// A temporary of that type.
-fn temporary(alloc: Global, x: Name, t: &Shared<CType>) -> Result<Shared<Translation>, AllocError>
-    ensures expr { IfOk result (λ a. a.expr ≡ Temp x t.now) }
-    ensures operand { IfOk result (λ a. a.operand ≡ value_of_type t.now) }
-{
-    let own = t.get().share(alloc)?;
-    let operand = Operand::value(t.get().share(alloc)?);
-    Shared::new(
-        alloc,
-        Translation {
-            expr: Expr::Temp(x, own),
-            operand,
-        },
-    )
-}
-
 /// A call goes to the end of the statements.
-fn push_call(
-    alloc: Global,
-    x: Option<Name>,
-    call: CallParts,
-    out: &mut StmtList,
-) -> Result<(), AllocError>
+fn push_call(x: Option<Name>, call: CallParts, out: &mut StmtList) -> Result<(), AllocError>
     ensures { IfOk result (λ u. out.new ≡ out.old ++ Call x call.callee call.arguments ∷ []) }
 {
-    let callee = call.callee.get().share(alloc)?;
-    out.push(Stmt::Call(x, callee, call.arguments))?;
+    out.push(call.into_statement(x))?;
     Ok(())
 }
 
 /// `lv = r`, once what it goes to is judged.
-fn assigned(
+fn simple_assignment(
     alloc: Global,
     names: &Names,
-    place: Place,
+    to: Destination<'_>,
     r: &CExpr,
-    target: &Translation,
     progress: &mut Progress,
     out: &mut StmtList,
 ) -> Result<(), Halt>
-    ensures exact { Gives (λ u. (out.new, progress.new)) result (assignment_lem names.now place Plain r.now (behind out.old target.now) progress.old) }
+    ensures exact { Gives (λ u. (out.new, progress.new)) result (assignment_lem names.now to.entry.place Plain r.now (behind out.old to.entry.target.now) progress.old) }
 {
     let value = right_side(alloc, names, r, progress, out)?;
-    send(alloc, place, target, value.get(), out)
+    send(alloc, to, &value, out)
+}
+
+/// An operator, and what its result goes to.
+#[derive(Clone, Copy)]
+struct Operation<'a> {
+    op: IntOp,
+    to: Destination<'a>,
 }
 
 /// `lv op= r`: what it goes to is read before the right side.
-fn updated(
+fn update(
     alloc: Global,
     names: &Names,
-    op: IntOp,
-    place: Place,
-    target: &Translation,
+    operation: Operation<'_>,
     r: &CExpr,
     progress: &mut Progress,
     out: &mut StmtList,
 ) -> Result<(), Halt>
-    ensures exact { Gives (λ u. (out.new, progress.new)) result (updated_lem op place (behind out.old target.now) (valued_lem names.now r.now) progress.old) }
+    ensures exact { Gives (λ u. (out.new, progress.new)) result (update_lem operation.entry.op operation.entry.to.place (behind out.old operation.entry.to.target.now) (rvalue_lem names.now r.now) progress.old) }
 {
-    let a = read(alloc, target, progress, out)?;
-    let b = valued(alloc, names, r, progress, out)?;
-    send_operation(alloc, op, place, target, a.get(), b.get(), progress, out)
+    let a = read(alloc, operation.to.target, progress, out)?;
+    let b = rvalue(alloc, names, r, progress, out)?;
+    send_operation(alloc, operation, &a, &b, progress, out)
 }
 
 /// `++` and `--` are `op= 1`.
-fn stepped(
+fn step_effect(
     alloc: Global,
-    op: StepOp,
-    place: Place,
+    step: Step,
     target: &Translation,
     progress: &mut Progress,
     out: &mut StmtList,
 ) -> Result<(), Halt>
-    ensures exact { Gives (λ u. (out.new, progress.new)) result (stepped_lem op place (behind out.old target.now) progress.old) }
+    ensures exact { Gives (λ u. (out.new, progress.new)) result (step_effect_lem step.op step.place (behind out.old target.now) progress.old) }
 {
-    judge(place, is_target(&target.operand))?;
+    judge(step.place, is_target(&target.operand))?;
     let own = read(alloc, target, progress, out)?;
-    let b = literal_one(alloc)?;
-    send_operation(
-        alloc,
-        step_op(op),
-        place,
+    let to = Destination {
+        place: step.place,
         target,
-        own.get(),
-        b.get(),
-        progress,
-        out,
-    )
+    };
+    let operation = Operation {
+        op: step_op(step.op),
+        to,
+    };
+    send_operation(alloc, operation, &own, &literal_one(), progress, out)
 }
 
 fn step_op(op: StepOp) -> IntOp
@@ -390,49 +380,42 @@ fn step_op(op: StepOp) -> IntOp
     }
 }
 
-fn literal_one(alloc: Global) -> Result<Shared<Translation>, AllocError>
-    ensures expr { IfOk result (λ a. a.expr ≡ literal_one_lem.expr) }
-    ensures operand { IfOk result (λ a. a.operand ≡ literal_one_lem.operand) }
+fn literal_one() -> Translation
+    ensures { (before : List Stmt) → behind before result ≡ record literal_one_lem { before = before } }
 {
-    Shared::new(
-        alloc,
-        Translation {
-            expr: one(),
-            operand: Operand::value(CType::Int(IntKind::I32)),
-        },
-    )
+    Translation {
+        expr: one(),
+        operand: Operand::value(CType::Int(IntKind::I32)),
+    }
 }
 
 /// The result of an operator goes to its target.
 fn send_operation(
     alloc: Global,
-    op: IntOp,
-    place: Place,
-    target: &Translation,
+    operation: Operation<'_>,
     a: &Translation,
     b: &Translation,
     progress: &Progress,
     out: &mut StmtList,
 ) -> Result<(), Halt>
-    ensures exact { Gives (λ u. (out.new, progress.now)) result (operation_sent op place (behind [] target.now) (behind [] a.now) (behind out.old b.now) progress.now) }
+    ensures exact { Gives (λ u. (out.new, progress.now)) result (send_operation_lem operation.entry.op operation.entry.to.place (behind [] operation.entry.to.target.now) (behind [] a.now) (behind out.old b.now) progress.now) }
 {
-    let sum = binary_operator(alloc, op, place, a, b, progress)?;
-    send(alloc, place, target, sum.get(), out)
+    let sum = binary_operator(alloc, operation.op, operation.to.place, a, b, progress)?;
+    send(alloc, operation.to, &sum, out)
 }
 
 /// The last statement of an effect: the value, cast where the types differ, goes to its target.
 fn send(
     alloc: Global,
-    place: Place,
-    target: &Translation,
+    to: Destination<'_>,
     value: &Translation,
     out: &mut StmtList,
 ) -> Result<(), Halt>
-    ensures exact { (progress : Kept) → Gives (λ u. (out.new, progress)) result (sent_to place (behind [] target.now) (behind [] value.now) out.old progress) }
+    ensures exact { (progress : Kept) → Gives (λ u. (out.new, progress)) result (send_to to.entry.place (behind [] to.entry.target.now) (behind [] value.now) out.old progress) }
 {
-    let fits = fits_into(alloc, &target.operand.ctype, &value.operand)?;
-    judge(place, fits)?;
-    push_store(alloc, target, value, out)?;
+    let fits = fits_into(alloc, &to.target.operand.ctype, &value.operand)?;
+    judge(to.place, fits)?;
+    push_store(alloc, to.target, value, out)?;
     Ok(())
 }
 
@@ -446,6 +429,7 @@ fn push_store(
     ensures { IfOk result (λ u. out.new ≡ out.old ++ store_lem target.now.expr (cast_into_lem target.now.operand.ctype (behind [] value.now)) ∷ []) }
 {
     let e = cast_into(alloc, &target.operand.ctype, value)?;
-    out.push(store(target.expr.share(alloc)?, e))?;
+    let stored = store(alloc, &target.expr, e)?;
+    out.push(stored)?;
     Ok(())
 }

@@ -3,6 +3,5 @@
 
 mod calls;
 mod effects;
-mod translations;
 
-pub use effects::{assign_first, effect, right_side};
+pub use effects::{Destination, assign_first, effect, right_side};

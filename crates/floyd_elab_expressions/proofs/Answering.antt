@@ -1,11 +1,11 @@
 -- What a call answers behind statements that stood before, by what its steps answered.
-use Rattle.std.proofs.Common.{◌≡◌, List, [], ◌∷◌, ◌++◌, refl, ap, sym, ◌∙◌, subst}
+use Rattle.std.proofs.Common.{◌≡◌, List, [], refl, ap, sym, ◌∙◌, subst}
 use Rattle.std.specs.Prelude.{Result, Ok, Err}
 use Rattle.std.specs.Result.{IsErrAnd}
 use Rattle.floyd_text.specs.declared.refusal.Refusal.{Refusal}
 use Rattle.floyd_text.specs.declared.refusal.Halt.{Halt}
 use Rattle.floyd_text.specs.Gives.{Stops, Gives}
-use Rattle.floyd_elab_names.specs.Doing.{Doing, followed, ◌>>=◌}
+use Rattle.floyd_elab_names.specs.Refusing.{Refusing, and_then, ◌>>=◌}
 use Rattle.floyd_clight.specs.declared.syntax.Stmt.{Stmt}
 use Rattle.floyd_elab_expressions.specs.declared.translation.Translation.{Translation}
 use Rattle.floyd_elab_expressions.specs.declared.progress.Progress.{Progress}
@@ -25,10 +25,6 @@ answers_as r out kept v w e h = subst (Answers r out kept) (sym e) h
 pub answers_stopped : (r : Result Translation Halt) (h : Halt) (out : List Stmt) (kept : Progress) (w : Result (Translated × Progress) Refusal) → IsErrAnd r (λ x. x ≡ h) → Stops h w → Answers r out kept w
 answers_stopped (Ok a) h out kept w e g = absurd e
 answers_stopped (Err x) h out kept w e g = subst (λ (z : Halt). Stops z w) (sym e) g
-
--- the same value, shared
-pub shared_as : (v : Result (Translated × Progress) Refusal) (out : List Stmt) (a b : Translation) (q : Progress) → b ≡ a → v ≡ Ok (behind out a, q) → v ≡ Ok (behind out b, q)
-shared_as v out a b q e is = subst (λ (z : Translation). v ≡ Ok (behind out z, q)) (sym e) is
 
 -- One operand, and what is done with it.
 
@@ -51,11 +47,11 @@ second_halts v m n k placed there p q a h r out kept is e err g = answers_as r o
 
 -- Two steps behind an operand.
 
-pub in_two : {S A B C : Type 0} (r : Result (A × S) Refusal) (f : A → Doing S B) (g : B → Doing S C) → followed (followed r f) g ≡ followed r (λ a. f a >>= g)
+pub in_two : {S A B C : Type 0} (r : Result (A × S) Refusal) (f : A → Refusing S B) (g : B → Refusing S C) → and_then (and_then r f) g ≡ and_then r (λ a. f a >>= g)
 in_two (Ok r) f g = refl
 in_two (Err refusal) f g = refl
 
 pub natural_two : (f g : Translated → Elaborating Translated) → IsNatural f → IsNatural g → IsNatural (λ a. f a >>= g)
 natural_two f g first second there a p =
     onto_followed there (f a p) g (λ b s. second there b s)
-    ∙ ap (λ (r : Result (Translated × Progress) Refusal). followed r g) (first there a p)
+    ∙ ap (λ (r : Result (Translated × Progress) Refusal). and_then r g) (first there a p)

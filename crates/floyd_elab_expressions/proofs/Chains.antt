@@ -1,27 +1,25 @@
 -- Chains of what is done one after the other, and statements that stood before.
-use Rattle.std.proofs.Common.{◌≡◌, ℕ, ◌+◌, Bool, true, false, ◌&&◌, List, [], ◌∷◌, ◌++◌, refl, ap, sym, ◌∙◌}
-use Rattle.std.specs.Prelude.{Result, Ok, Err, if◌then◌else◌}
-use Rattle.std.proofs.lemmas.List.{append_assoc, append-nil}
+use Rattle.std.proofs.Common.{◌≡◌, List, [], ◌++◌, refl, ap}
+use Rattle.std.specs.Prelude.{Result, Ok, Err}
 use Rattle.floyd_text.specs.declared.refusal.Refusal.{Refusal}
 use Rattle.floyd_text.specs.declared.refusal.Halt.{Halt}
 use Rattle.floyd_text.specs.declared.refusal.Halt.TheVariants.{Refused, Memory}
-use Rattle.floyd_text.specs.Gives.{Stops, Gives}
-use Rattle.floyd_elab_names.specs.declared.tags.Tags.{Tags}
-use Rattle.floyd_elab_names.specs.Doing.{Doing, followed, ◌>>=◌, ◌>>◌, pure}
+use Rattle.floyd_text.specs.Gives.{Stops}
+use Rattle.floyd_elab_names.specs.Refusing.{Refusing, and_then}
 use Rattle.floyd_elab_names.specs.Typing.{Typing}
 use Rattle.floyd_clight.specs.declared.syntax.Stmt.{Stmt}
 use Rattle.floyd_elab_expressions.specs.declared.progress.Progress.{Progress}
 use Rattle.floyd_elab_expressions.specs.Clight.{Translated}
-use Rattle.floyd_elab_expressions.specs.Progress.{Elaborating, with_tags, typing}
+use Rattle.floyd_elab_expressions.specs.Progress.{with_tags, typing}
 use Rattle.floyd_elab_expressions.specs.Behind.{onto}
 
 -- What follows what was done.
 
-pub goes : {S A B : Type 0} (r : Result (A × S) Refusal) (k : A → Doing S B) (a : A) (s : S) → r ≡ Ok (a, s) → followed r k ≡ k a s
-goes r k a s e = ap (λ x. followed x k) e
+pub goes : {S A B : Type 0} (r : Result (A × S) Refusal) (k : A → Refusing S B) (a : A) (s : S) → r ≡ Ok (a, s) → and_then r k ≡ k a s
+goes r k a s e = ap (λ x. and_then x k) e
 
-pub stops : {S A B : Type 0} (h : Halt) (r : Result (A × S) Refusal) (k : A → Doing S B) → Stops h r → Stops h (followed r k)
-stops (Refused refusal) r k e = ap (λ x. followed x k) e
+pub stops : {S A B : Type 0} (h : Halt) (r : Result (A × S) Refusal) (k : A → Refusing S B) → Stops h r → Stops h (and_then r k)
+stops (Refused refusal) r k e = ap (λ x. and_then x k) e
 stops Memory r k e = tt
 
 -- Typing on the way, which keeps the structs.
@@ -35,11 +33,11 @@ typing_stops Memory t p e = tt
 
 -- Statements that stood before.
 
-pub onto_through : {S A : Type 0} (there : List Stmt) (r : Result (A × S) Refusal) (k l : A → Doing S Translated) → ((a : A) (s : S) → onto there (k a s) ≡ l a s) → onto there (followed r k) ≡ followed r l
+pub onto_through : {S A : Type 0} (there : List Stmt) (r : Result (A × S) Refusal) (k l : A → Refusing S Translated) → ((a : A) (s : S) → onto there (k a s) ≡ l a s) → onto there (and_then r k) ≡ and_then r l
 onto_through there (Ok r) k l more = more r.0 r.1
 onto_through there (Err refusal) k l more = refl
 
-pub onto_followed : {S : Type 0} (there : List Stmt) (r : Result (Translated × S) Refusal) (k : Translated → Doing S Translated) → ((a : Translated) (s : S) → onto there (k a s) ≡ k (record a { before = there ++ a.before }) s) → onto there (followed r k) ≡ followed (onto there r) k
+pub onto_followed : {S : Type 0} (there : List Stmt) (r : Result (Translated × S) Refusal) (k : Translated → Refusing S Translated) → ((a : Translated) (s : S) → onto there (k a s) ≡ k (record a { before = there ++ a.before }) s) → onto there (and_then r k) ≡ and_then (onto there r) k
 onto_followed there (Ok r) k more = more r.0 r.1
 onto_followed there (Err refusal) k more = refl
 

@@ -1,9 +1,9 @@
 -- Names that are counted.
-use Rattle.std.proofs.Common.{◌≡◌, ℕ, ◌+◌, Bool, true, false, true≢false, List, [], ◌∷◌, ◌++◌, Option, Some, None, cond, count_by, bytes_eq, refl, ap, sym, ◌∙◌, subst, arith}
+use Rattle.std.proofs.Common.{◌≡◌, ℕ, ◌+◌, Bool, true, false, true≢false, List, [], ◌∷◌, ◌++◌, Some, cond, count_by, bytes_eq, refl, ap, sym, ◌∙◌, subst, arith}
 use Rattle.std.specs.Map.{lookup}
 use Rattle.std.proofs.lemmas.Slice.Eq.{bytes_eq-Decides}
 use Rattle.std.proofs.lemmas.List.Sums.{sum_by-append}
-use Rattle.floyd_elab_expressions.specs.Counted.{number_in, AreCounted, PutsCount}
+use Rattle.floyd_elab_expressions.specs.CountClauses.{number_in, AreCounted, PutsCount}
 
 at_name : (names : List (List ℕ)) (x q : List ℕ) (b : Bool) → bytes_eq q x ≡ b → count_by (bytes_eq q) (names ++ x ∷ []) ≡ count_by (bytes_eq q) names + cond b 1 0
 at_name names x q true e = sum_by-append (λ y. cond (bytes_eq q y) 1 0) names (x ∷ []) ∙ ap (λ b. count_by (bytes_eq q) names + (0 + cond b 1 0)) e

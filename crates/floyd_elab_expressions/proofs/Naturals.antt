@@ -1,6 +1,6 @@
 -- Statements that stood before what was translated stay before it.
-use Rattle.std.proofs.Common.{◌≡◌, ℕ, ◌+◌, Bool, true, false, ◌&&◌, List, [], ◌∷◌, ◌++◌, refl, ap, sym, ◌∙◌}
-use Rattle.std.specs.Prelude.{Result, Ok, Err, if◌then◌else◌}
+use Rattle.std.proofs.Common.{◌≡◌, ◌+◌, Bool, true, false, ◌&&◌, List, [], ◌∷◌, ◌++◌, refl, ap, sym}
+use Rattle.std.specs.Prelude.{Result, Ok, if◌then◌else◌}
 use Rattle.std.proofs.lemmas.List.{append_assoc}
 use Rattle.floyd_text.specs.declared.place.Place.{Place}
 use Rattle.floyd_text.specs.declared.refusal.Refusal.{Refusal}
@@ -13,34 +13,34 @@ use Rattle.floyd_cparse_trees.specs.declared.expressions.MemberOp.TheVariants.{D
 use Rattle.floyd_cparse_trees.specs.declared.expressions.PrefixOp.{PrefixOp}
 use Rattle.floyd_cparse_trees.specs.declared.expressions.PrefixOp.TheVariants.{Minus, Plus, Complement, Not, Dereference, Address}
 use Rattle.floyd_ctyping.specs.declared.operand.Operand.{Operand}
-use Rattle.floyd_elab_names.specs.Doing.{followed, ◌>>=◌, pure}
+use Rattle.floyd_elab_names.specs.Refusing.{and_then, pure}
 use Rattle.floyd_elab_names.specs.Typing.{Typing}
 use Rattle.floyd_elab_names.specs.Types.{is_scalar}
 use Rattle.floyd_ctyping.specs.Operators as o
 use Rattle.floyd_ctyping.specs.Expressions as t
-use Rattle.floyd_clight.specs.declared.syntax.Expr.{Expr, Temp}
+use Rattle.floyd_clight.specs.declared.syntax.Expr.{Temp}
 use Rattle.floyd_clight.specs.declared.syntax.Stmt.{Stmt, Set}
 use Rattle.floyd_elab_expressions.specs.declared.progress.Progress.{Progress}
-use Rattle.floyd_elab_expressions.specs.Clight.{Translated, deref_of, combined, is_memory, pulled_name}
+use Rattle.floyd_elab_expressions.specs.Clight.{Translated, deref_of, combine, is_memory, pulled_name}
 use Rattle.floyd_elab_expressions.specs.Progress.{Elaborating, typing, pull}
 use Rattle.floyd_elab_expressions.specs.Behind.{onto}
-use Rattle.floyd_elab_expressions.specs.Expressions.{read, pulled, prefix_expr, before_operator, prefix_operator, cast_to, binary_operator, indexed, struct_expr, before_member, member, refused}
+use Rattle.floyd_elab_expressions.specs.Expressions.{read, pull_read, before_operator, prefix_operator, cast_to, binary_operator, subscript, before_member, member, nested_refusal}
 use Rattle.floyd_elab_expressions.proofs.Chains.{onto_through}
 
 abbrev pub IsNatural : (Translated → Elaborating Translated) → Type 0
 IsNatural k = (there : List Stmt) (a : Translated) (p : Progress) → onto there (k a p) ≡ k (record a { before = there ++ a.before }) p
 
-natural_pulled : IsNatural pulled
+natural_pulled : IsNatural pull_read
 natural_pulled there a p =
     let x = pulled_name (p.drawn + 1) in
     let t = a.operand.ctype in
-    ap (λ (l : List Stmt). followed (pull t p) (λ y. pure {S = Progress} (let made : Translated = record { before = l; expr = Temp y t; operand = o.value_of_type t } in made)))
+    ap (λ (l : List Stmt). and_then (pull t p) (λ y. pure {S = Progress} (let made : Translated = record { before = l; expr = Temp y t; operand = o.value_of_type t } in made)))
     (sym (append_assoc there a.before (Set x a.expr ∷ [])))
 
 pub natural_read : IsNatural read
 natural_read there a p = by (is_memory a.expr && is_scalar a.operand.ctype)
   where
-    by : (b : Bool) → onto there ((if b then pulled a else pure a) p) ≡ (if b then pulled (record a { before = there ++ a.before }) else pure (record a { before = there ++ a.before })) p
+    by : (b : Bool) → onto there ((if b then pull_read a else pure a) p) ≡ (if b then pull_read (record a { before = there ++ a.before }) else pure (record a { before = there ++ a.before })) p
     by true = natural_pulled there a p
     by false = refl
 
@@ -71,7 +71,7 @@ pub natural_member : (op : MemberOp) (place : Place) (field : Identifier) → Is
 natural_member Dot place field there a p = onto_through there (typing (t.member Dot place field a.operand) p) _ _ (λ r s. refl)
 natural_member Arrow place field there a p = onto_through there (typing (t.member Arrow place field a.operand) p) _ _ (λ r s. refl)
 
-pub natural_refused : (of_operand : Operand → Typing Operand) → IsNatural (λ a. refused (of_operand a.operand) a)
+pub natural_refused : (of_operand : Operand → Typing Operand) → IsNatural (λ a. nested_refusal (of_operand a.operand) a)
 natural_refused of_operand there a p = onto_through there (typing (of_operand a.operand) p) _ _ (λ r s. refl)
 
 -- Of two operands.
@@ -82,15 +82,15 @@ ArePlaced k = ((there : List Stmt) (a b : Translated) (p : Progress) → onto th
 
 pub placed_binary : (op : IntOp) (place : Place) → ArePlaced (binary_operator op place)
 placed_binary op place = (
-  λ there a b p. onto_through there (typing (t.gives_value place (o.binary_type p.tags.structs op a.operand b.operand)) p) _ _ (λ r s. ap (λ (l : List Stmt). let made : Result (Translated × Progress) Refusal = Ok (record { before = l; expr = combined op a b r.ctype; operand = r }, s) in made) (sym (append_assoc there a.before b.before))),
+  λ there a b p. onto_through there (typing (t.gives_value place (o.binary_type p.tags.structs op a.operand b.operand)) p) _ _ (λ r s. ap (λ (l : List Stmt). let made : Result (Translated × Progress) Refusal = Ok (record { before = l; expr = combine op a b r.ctype; operand = r }, s) in made) (sym (append_assoc there a.before b.before))),
   λ a b p. refl,
 )
 
-pub placed_indexed : (place : Place) → ArePlaced (indexed place)
+pub placed_indexed : (place : Place) → ArePlaced (subscript place)
 placed_indexed place = (
   λ there a i p.
       onto_through there (typing (t.gives_value place (o.binary_type p.tags.structs Add a.operand i.operand)) p) _ _ (λ sum q.
       onto_through there (typing (t.gives_object place (o.element_type p.tags.structs a.operand i.operand)) q) _ _ (λ r s.
-      ap (λ (l : List Stmt). let made : Result (Translated × Progress) Refusal = Ok (record { before = l; expr = deref_of (combined Add a i sum.ctype) r.ctype; operand = r }, s) in made) (sym (append_assoc there a.before i.before)))),
+      ap (λ (l : List Stmt). let made : Result (Translated × Progress) Refusal = Ok (record { before = l; expr = deref_of (combine Add a i sum.ctype) r.ctype; operand = r }, s) in made) (sym (append_assoc there a.before i.before)))),
   λ a i p. refl,
 )

@@ -1,10 +1,10 @@
 -- What an expression of several steps is translated to, by what its steps gave.
-use Rattle.std.proofs.Common.{◌≡◌, ℕ, List, [], ◌∷◌, ◌++◌, refl, ap, sym, ◌∙◌, subst}
+use Rattle.std.proofs.Common.{◌≡◌, List, [], ◌++◌, refl, sym, ◌∙◌, subst}
 use Rattle.std.specs.Prelude.{Result, Ok, Err}
 use Rattle.floyd_text.specs.declared.refusal.Refusal.{Refusal}
 use Rattle.floyd_text.specs.declared.refusal.Halt.{Halt}
 use Rattle.floyd_text.specs.Gives.{Stops}
-use Rattle.floyd_elab_names.specs.Doing.{followed, ◌>>=◌, pure}
+use Rattle.floyd_elab_names.specs.Refusing.{and_then, ◌>>=◌}
 use Rattle.floyd_clight.specs.declared.syntax.Stmt.{Stmt}
 use Rattle.floyd_elab_expressions.specs.declared.progress.Progress.{Progress}
 use Rattle.floyd_elab_expressions.specs.Clight.{Translated}
@@ -29,7 +29,7 @@ both n k a = n >>= λ b. k a b
 natural_both : (n : Elaborating Translated) (k : Translated → Translated → Elaborating Translated) → ArePlaced k → IsNatural (both n k)
 natural_both n k placed there a p = onto_through there (n p) (k a) (k (record a { before = there ++ a.before })) (λ b s. placed.0 there a b s)
 
-moved : (k : Translated → Translated → Elaborating Translated) → ArePlaced k → (a : Translated) (r : Result (Translated × Progress) Refusal) → followed r (k a) ≡ followed (onto a.before r) (k (record a { before = [] }))
+moved : (k : Translated → Translated → Elaborating Translated) → ArePlaced k → (a : Translated) (r : Result (Translated × Progress) Refusal) → and_then r (k a) ≡ and_then (onto a.before r) (k (record a { before = [] }))
 moved k placed a (Ok r) = placed.1 a r.0 r.1
 moved k placed a (Err refusal) = refl
 

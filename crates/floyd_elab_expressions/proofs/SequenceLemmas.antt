@@ -1,6 +1,6 @@
 -- Sequences by their lengths.
-use Rattle.std.proofs.Common.{◌≡◌, ℕ, ◌+◌, ◌<◌, ◌≤◌, List, [], ◌∷◌, ◌++◌, length, refl, ap, sym, ◌∙◌, arith}
-use Rattle.floyd_clight.specs.declared.syntax.Stmt.{Stmt, Skip, Seq}
+use Rattle.std.proofs.Common.{◌≡◌, ◌<◌, ◌≤◌, List, [], ◌∷◌, ◌++◌, length, refl, arith}
+use Rattle.floyd_clight.specs.declared.syntax.Stmt.{Stmt, Seq}
 use Rattle.floyd_elab_expressions.specs.Clight.{sequence}
 
 pub sequence_long : (l : List Stmt) → 1 < length l → Seq l ≡ sequence l

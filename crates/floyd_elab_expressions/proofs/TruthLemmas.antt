@@ -1,5 +1,5 @@
 -- Tests of expressions as the program makes them.
-use Rattle.std.proofs.Common.{◌≡◌, Bool, false, List, refl}
+use Rattle.std.proofs.Common.{◌≡◌, List, refl}
 use denote.Hole.Carrier.{hidden}
 use Rattle.floyd_text.specs.declared.place.Place.{Place}
 use Rattle.floyd_int.specs.declared.kinds.IntOp.{IntOp}

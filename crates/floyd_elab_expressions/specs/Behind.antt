@@ -14,6 +14,6 @@ onto there (Ok r) = Ok (record r.0 { before = there ++ r.0.before }, r.1)
 onto there (Err refusal) = Err refusal
 
 -- statements behind those that were there before
-abbrev pub appended : {S : Type 0} → List Stmt → Result (List Stmt × S) Refusal → Result (List Stmt × S) Refusal
-appended there (Ok r) = Ok (there ++ r.0, r.1)
-appended there (Err refusal) = Err refusal
+abbrev pub put_behind : {S : Type 0} → List Stmt → Result (List Stmt × S) Refusal → Result (List Stmt × S) Refusal
+put_behind there (Ok r) = Ok (there ++ r.0, r.1)
+put_behind there (Err refusal) = Err refusal

@@ -103,8 +103,8 @@ right_type Shl a b = value_type b
 right_type Shr a b = value_type b
 right_type op a b = if is_comparison op then common_or_own a b b else usual_or_own a b b
 
-abbrev pub combined : IntOp → Translated → Translated → CType → Expr
-combined op a b t = binary_of op (cast_into (left_type op a.operand b.operand) a) (cast_into (right_type op a.operand b.operand) b) t
+abbrev pub combine : IntOp → Translated → Translated → CType → Expr
+combine op a b t = binary_of op (cast_into (left_type op a.operand b.operand) a) (cast_into (right_type op a.operand b.operand) b) t
 
 -- Tests. A comparison and `!` are tests as they are, and another expression is compared with 0.
 
@@ -119,7 +119,7 @@ is_truth (e.Binary' p left (binary.Int op) place q right) = is_comparison op
 is_truth e = false
 
 abbrev pub test_of : e.CExpr → Translated → Expr
-test_of e a = if is_truth e then a.expr else combined Ne a literal_zero int_type
+test_of e a = if is_truth e then a.expr else combine Ne a literal_zero int_type
 
 -- Statements.
 
@@ -145,7 +145,7 @@ kth_name x k = x ++ codes "''" ++ decimal k
 
 -- whether an expression stands for a place in memory
 abbrev pub is_memory : Expr → Bool
-is_memory (Var x t) = true
+is_memory (Var bound x t) = true
 is_memory (Deref' p e t) = true
 is_memory (Field' p e x t) = true
 is_memory e = false

@@ -20,47 +20,50 @@ use Rattle.floyd_elab_names.specs.declared.meaning.Meaning.TheVariants as m
 use Rattle.floyd_elab_names.specs.declared.meaning.Storage.{Storage}
 use Rattle.floyd_elab_names.specs.declared.meaning.Storage.TheVariants as kept
 use Rattle.floyd_ctyping.specs.declared.operand.Operand.{Operand}
-use Rattle.floyd_elab_names.specs.Doing.{◌>>=◌, ◌>>◌, pure}
+use Rattle.floyd_elab_names.specs.Refusing.{◌>>=◌, ◌>>◌, pure}
 use Rattle.floyd_elab_names.specs.Typing.{Typing, the_structs}
 use Rattle.floyd_elab_names.specs.Scopes.{Scopes, meaning_of}
 use Rattle.floyd_elab_names.specs.Types.{int_type, size_type, is_scalar, pointee}
 use Rattle.floyd_ctyping.specs.Operators as o
 use Rattle.floyd_elab_names.specs.Declarators.{parenthesis, type_named}
 use Rattle.floyd_ctyping.specs.Expressions as typed
+use Rattle.floyd_clight.specs.declared.syntax.Binding.TheVariants as bound
 use Rattle.floyd_clight.specs.declared.syntax.Expr.{Expr, Const, Temp, Var, SizeOf}
 use Rattle.floyd_clight.specs.declared.syntax.Stmt.{Stmt, Set, If}
 use Rattle.floyd_clight.specs.declared.syntax.UnaryOp.TheVariants as unary
-use Rattle.floyd_elab_expressions.specs.Clight.{Translated, deref_of, address_of, unary_of, cast_of, field_of, bits_of, zero, one, cast_into, or_own, promoted_or_own, combined, test_of, sequence, is_memory, pulled_name}
+use Rattle.floyd_elab_expressions.specs.Clight.{Translated, deref_of, address_of, unary_of, cast_of, field_of, bits_of, zero, one, cast_into, or_own, promoted_or_own, combine, test_of, sequence, is_memory, pulled_name}
 use Rattle.floyd_elab_expressions.specs.Progress.{Elaborating, typing, draw, add_temporary, pull}
 
 -- Reads.
 
 -- sets the next temporary to it
-abbrev pub pulled : Translated → Elaborating Translated
-pulled a = do
+abbrev pub pull_read : Translated → Elaborating Translated
+pull_read a = do
   x ← pull a.operand.ctype
   pure (record { before = a.before ++ Set x a.expr ∷ []; expr = Temp x a.operand.ctype; operand = o.value_of_type a.operand.ctype })
 
 -- the value of what was translated: a number or a pointer in memory is read
 abbrev pub read : Translated → Elaborating Translated
-read a = if is_memory a.expr && is_scalar a.operand.ctype then pulled a else pure a
+read a = if is_memory a.expr && is_scalar a.operand.ctype then pull_read a else pure a
 
 -- Names and literals.
 
+-- A variable by what it is called in Clight. What its name stands for in the scope at its place decides whether it is a
+-- temporary, the function's own variable with a block, or a variable of the file.
 abbrev pub variable_of : Storage → List ℕ → CType → Expr
-variable_of kept.Global x t = Var x t
-variable_of kept.Block x t = Var x t
+variable_of kept.Global x t = Var bound.File x t
+variable_of kept.Block x t = Var bound.Block x t
 variable_of kept.Temporary x t = Temp x t
 variable_of kept.Parameter x t = Temp x t
 
-abbrev pub named_expr : Identifier → CType → Option Meaning → Expr
-named_expr i t (Some (m.Variable clight u storage)) = variable_of storage clight t
-named_expr i t meaning = Var i.name t
+abbrev pub name_expr : Identifier → CType → Option Meaning → Expr
+name_expr i t (Some (m.Variable clight u storage)) = variable_of storage clight t
+name_expr i t meaning = Var bound.File i.name t
 
-abbrev pub named : Identifier → Option Meaning → Elaborating Translated
-named i meaning = do
-  a ← typing (typed.named i meaning)
-  pure (record { before = []; expr = named_expr i a.ctype meaning; operand = a })
+abbrev pub identifier : Identifier → Option Meaning → Elaborating Translated
+identifier i meaning = do
+  a ← typing (typed.name_operand i meaning)
+  pure (record { before = []; expr = name_expr i a.ctype meaning; operand = a })
 
 abbrev pub literal : Literal → Translated
 literal l = record { before = []; expr = Const (bits_of l.kind l.value) (Int l.kind); operand = typed.literal_operand l }
@@ -95,15 +98,15 @@ abbrev pub binary_operator : IntOp → Place → Translated → Translated → E
 binary_operator op place a b = do
   structs ← typing the_structs
   r ← typing (typed.gives_value place (o.binary_type structs op a.operand b.operand))
-  pure (record { before = a.before ++ b.before; expr = combined op a b r.ctype; operand = r })
+  pure (record { before = a.before ++ b.before; expr = combine op a b r.ctype; operand = r })
 
 -- `a[i]` is `*(a + i)`
-abbrev pub indexed : Place → Translated → Translated → Elaborating Translated
-indexed place a i = do
+abbrev pub subscript : Place → Translated → Translated → Elaborating Translated
+subscript place a i = do
   structs ← typing the_structs
   sum ← typing (typed.gives_value place (o.binary_type structs Add a.operand i.operand))
   r ← typing (typed.gives_object place (o.element_type structs a.operand i.operand))
-  pure (record { before = a.before ++ i.before; expr = deref_of (combined Add a i sum.ctype) r.ctype; operand = r })
+  pure (record { before = a.before ++ i.before; expr = deref_of (combine Add a i sum.ctype) r.ctype; operand = r })
 
 -- the struct that `.` takes a field of, or `->` behind a pointer
 abbrev pub struct_expr : MemberOp → Translated → Expr
@@ -132,83 +135,83 @@ abbrev pub one_of : Expr → List Stmt → Expr → List ℕ → Stmt
 one_of first before second x = If first (Set x one) (sequence (before ++ Set x second ∷ []))
 
 -- `a ? b : c`: each branch sets the temporary of the number k to its part, cast to the common type
-abbrev pub sent : List ℕ → CType → Translated → Stmt
-sent x t a = sequence (a.before ++ Set x (cast_into t a) ∷ [])
+abbrev pub branch : List ℕ → CType → Translated → Stmt
+branch x t a = sequence (a.before ++ Set x (cast_into t a) ∷ [])
 
-abbrev pub chosen : Place → ℕ → List Stmt → Expr → Translated → Translated → Elaborating Translated
-chosen place k before test a b = do
+abbrev pub conditional_result : Place → ℕ → List Stmt → Expr → Translated → Translated → Elaborating Translated
+conditional_result place k before test a b = do
   result ← typing (typed.gives_value place (o.common_type a.operand b.operand))
   add_temporary (pulled_name k) result.ctype
   let x = pulled_name k
-  pure (record { before = before ++ If test (sent x result.ctype a) (sent x result.ctype b) ∷ []; expr = Temp x result.ctype; operand = result })
+  pure (record { before = before ++ If test (branch x result.ctype a) (branch x result.ctype b) ∷ []; expr = Temp x result.ctype; operand = result })
 
 -- a step, an assignment or a call inside an expression is refused
-abbrev pub refused : Typing Operand → Translated → Elaborating Translated
-refused typing_of a = do
+abbrev pub nested_refusal : Typing Operand → Translated → Elaborating Translated
+nested_refusal typing_of a = do
   r ← typing typing_of
   pure (record a { operand = r })
 
 module _ (scopes : Scopes) where
-  abbrev pub prefixed : List Prefix → Elaborating Translated → Elaborating Translated
-  prefixed [] operand = operand
-  prefixed (before.Op op place ∷ rest) operand = prefixed rest operand >>= before_operator op >>= prefix_operator op place
-  prefixed (before.Step op place ∷ rest) operand = do
-    a ← prefixed rest operand
-    refused (typed.nested_step place a.operand) a
-  prefixed (before.Cast n place ∷ rest) operand = do
+  abbrev pub with_prefixes : List Prefix → Elaborating Translated → Elaborating Translated
+  with_prefixes [] operand = operand
+  with_prefixes (before.Op op place ∷ rest) operand = with_prefixes rest operand >>= before_operator op >>= prefix_operator op place
+  with_prefixes (before.Step op place ∷ rest) operand = do
+    a ← with_prefixes rest operand
+    nested_refusal (typed.nested_step place a.operand) a
+  with_prefixes (before.Cast n place ∷ rest) operand = do
     t ← typing (type_named scopes (parenthesis place) n)
-    prefixed rest operand >>= read >>= cast_to place t
+    with_prefixes rest operand >>= read >>= cast_to place t
 
   -- an expression, which is not read yet
-  abbrev pub translated : e.CExpr → Elaborating Translated
-  translated (e.Name i) = named i (meaning_of scopes i.name)
-  translated (e.Literal l) = pure (literal l)
-  translated (e.Parenthesised' p (e.more_of-CExpr inner e.end_of-CExpr)) = translated inner
-  translated (e.Prefixed' prefixes p (e.more_of-CExpr operand e.end_of-CExpr)) = prefixed prefixes (translated operand)
-  translated (e.SizeOf place n) = do
+  abbrev pub expression : e.CExpr → Elaborating Translated
+  expression (e.Name i) = identifier i (meaning_of scopes i.name)
+  expression (e.Literal l) = pure (literal l)
+  expression (e.Parenthesised' p (e.more_of-CExpr inner e.end_of-CExpr)) = expression inner
+  expression (e.Prefixed' prefixes p (e.more_of-CExpr operand e.end_of-CExpr)) = with_prefixes prefixes (expression operand)
+  expression (e.SizeOf place n) = do
     t ← typing (typed.sized_type scopes place n)
     pure (record { before = []; expr = SizeOf t size_type; operand = o.value_of_type size_type })
-  translated (e.PostfixStep' p (e.more_of-CExpr operand e.end_of-CExpr) op place) = do
-    a ← translated operand
-    refused (typed.nested_step place a.operand) a
-  translated (e.Index' p (e.more_of-CExpr array e.end_of-CExpr) place q (e.more_of-CExpr index e.end_of-CExpr)) = do
-    a ← translated array >>= read
-    i ← translated index >>= read
-    indexed place a i
-  translated (e.Call' p (e.more_of-CExpr function e.end_of-CExpr) place shape arguments) = do
-    a ← translated function
-    refused (typed.nested_call place (length shape) a.operand) a
-  translated (e.Member' p (e.more_of-CExpr operand e.end_of-CExpr) op place field) =
-      translated operand >>= before_member op >>= member op place field
-  translated (e.Binary' p (e.more_of-CExpr left e.end_of-CExpr) (binary.Int op) place q (e.more_of-CExpr right e.end_of-CExpr)) = do
-    a ← translated left >>= read
-    b ← translated right >>= read
+  expression (e.PostfixStep' p (e.more_of-CExpr operand e.end_of-CExpr) op place) = do
+    a ← expression operand
+    nested_refusal (typed.nested_step place a.operand) a
+  expression (e.Index' p (e.more_of-CExpr array e.end_of-CExpr) place q (e.more_of-CExpr index e.end_of-CExpr)) = do
+    a ← expression array >>= read
+    i ← expression index >>= read
+    subscript place a i
+  expression (e.Call' p (e.more_of-CExpr function e.end_of-CExpr) place shape arguments) = do
+    a ← expression function
+    nested_refusal (typed.nested_call place (length shape) a.operand) a
+  expression (e.Member' p (e.more_of-CExpr operand e.end_of-CExpr) op place field) =
+      expression operand >>= before_member op >>= member op place field
+  expression (e.Binary' p (e.more_of-CExpr left e.end_of-CExpr) (binary.Int op) place q (e.more_of-CExpr right e.end_of-CExpr)) = do
+    a ← expression left >>= read
+    b ← expression right >>= read
     binary_operator op place a b
-  translated (e.Binary' p (e.more_of-CExpr left e.end_of-CExpr) binary.And place q (e.more_of-CExpr right e.end_of-CExpr)) = do
-    a ← translated left >>= read
-    typing (typed.tested place a.operand)
+  expression (e.Binary' p (e.more_of-CExpr left e.end_of-CExpr) binary.And place q (e.more_of-CExpr right e.end_of-CExpr)) = do
+    a ← expression left >>= read
+    typing (typed.check_test place a.operand)
     x ← pull int_type
-    b ← translated right >>= read
-    typing (typed.tested place b.operand)
+    b ← expression right >>= read
+    typing (typed.check_test place b.operand)
     pure (truth x (a.before ++ both (test_of left a) b.before (test_of right b) x ∷ []))
-  translated (e.Binary' p (e.more_of-CExpr left e.end_of-CExpr) binary.Or place q (e.more_of-CExpr right e.end_of-CExpr)) = do
-    a ← translated left >>= read
-    typing (typed.tested place a.operand)
+  expression (e.Binary' p (e.more_of-CExpr left e.end_of-CExpr) binary.Or place q (e.more_of-CExpr right e.end_of-CExpr)) = do
+    a ← expression left >>= read
+    typing (typed.check_test place a.operand)
     x ← pull int_type
-    b ← translated right >>= read
-    typing (typed.tested place b.operand)
+    b ← expression right >>= read
+    typing (typed.check_test place b.operand)
     pure (truth x (a.before ++ one_of (test_of left a) b.before (test_of right b) x ∷ []))
-  translated (e.Conditional' p (e.more_of-CExpr test e.end_of-CExpr) place q (e.more_of-CExpr then_part e.end_of-CExpr) r (e.more_of-CExpr else_part e.end_of-CExpr)) = do
-    c ← translated test >>= read
-    typing (typed.tested place c.operand)
+  expression (e.Conditional' p (e.more_of-CExpr test e.end_of-CExpr) place q (e.more_of-CExpr then_part e.end_of-CExpr) r (e.more_of-CExpr else_part e.end_of-CExpr)) = do
+    c ← expression test >>= read
+    typing (typed.check_test place c.operand)
     k ← draw
-    a ← translated then_part >>= read
-    b ← translated else_part >>= read
-    chosen place k c.before (test_of test c) a b
-  translated (e.Assign' p (e.more_of-CExpr target e.end_of-CExpr) op place q value) = do
-    a ← translated target
-    refused (typed.nested_assignment place a.operand) a
+    a ← expression then_part >>= read
+    b ← expression else_part >>= read
+    conditional_result place k c.before (test_of test c) a b
+  expression (e.Assign' p (e.more_of-CExpr target e.end_of-CExpr) op place q value) = do
+    a ← expression target
+    nested_refusal (typed.nested_assignment place a.operand) a
 
   -- the value of an expression
-  abbrev pub valued : e.CExpr → Elaborating Translated
-  valued e = translated e >>= read
+  abbrev pub rvalue : e.CExpr → Elaborating Translated
+  rvalue e = expression e >>= read

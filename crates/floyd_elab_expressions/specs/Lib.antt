@@ -3,5 +3,5 @@ pub mod Clight
 pub mod Progress
 pub mod Expressions
 pub mod Behind
-pub mod Logic
-pub mod Counted
+pub mod LogicClauses
+pub mod CountClauses

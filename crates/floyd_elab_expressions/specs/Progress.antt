@@ -3,14 +3,13 @@ use Rattle.std.specs.Prelude.{ℕ, ◌+◌, List, [], ◌∷◌, ◌++◌, Resul
 use Rattle.floyd_text.specs.declared.refusal.Refusal.{Refusal}
 use Rattle.floyd_ctypes.specs.declared.ctype.CType.{CType}
 use Rattle.floyd_elab_names.specs.declared.tags.Tags.{Tags}
-use Rattle.floyd_elab_names.specs.Doing.{Doing, ◌>>=◌, ◌>>◌, pure, changed}
+use Rattle.floyd_elab_names.specs.Refusing.{Refusing, ◌>>=◌, ◌>>◌, pure, modify}
 use Rattle.floyd_elab_names.specs.Typing.{Typing}
-use Rattle.floyd_clight.specs.declared.unit.Local.{Local}
 use Rattle.floyd_elab_expressions.specs.declared.progress.Progress.{Progress}
 use Rattle.floyd_elab_expressions.specs.Clight.{pulled_name}
 
 abbrev pub Elaborating : Type 0 → Type 0
-Elaborating A = Doing Progress A
+Elaborating A = Refusing Progress A
 
 -- typing on the way
 abbrev pub with_tags : {A : Type 0} → Progress → Result (A × Tags) Refusal → Result (A × Progress) Refusal
@@ -25,13 +24,13 @@ abbrev pub draw : Elaborating ℕ
 draw = λ progress. Ok (progress.drawn + 1, record progress { drawn = progress.drawn + 1 })
 
 abbrev pub add_temporary : List ℕ → CType → Elaborating (Unit {0})
-add_temporary name t = changed (λ progress. record progress { temporaries = progress.temporaries ++ record { name = name; ctype = t } ∷ [] })
+add_temporary name t = modify (λ progress. record progress { temporaries = progress.temporaries ++ record { name = name; ctype = t } ∷ [] })
 
 abbrev pub add_block : List ℕ → CType → Elaborating (Unit {0})
-add_block name t = changed (λ progress. record progress { blocks = progress.blocks ++ record { name = name; ctype = t } ∷ [] })
+add_block name t = modify (λ progress. record progress { blocks = progress.blocks ++ record { name = name; ctype = t } ∷ [] })
 
 abbrev pub add_name : List ℕ → Elaborating (Unit {0})
-add_name name = changed (λ progress. record progress { names = progress.names ++ name ∷ [] })
+add_name name = modify (λ progress. record progress { names = progress.names ++ name ∷ [] })
 
 -- a temporary of the next number
 abbrev pub pull : CType → Elaborating (List ℕ)

@@ -3,7 +3,7 @@ ghost use Rattle.floyd_int.specs.Operation.{is_comparison as is_comparison_lem};
 ghost use Rattle.floyd_elab_names.specs.Types.{same_type as same_type_lem};
 ghost use Rattle.floyd_ctyping.specs.Operators.{value_type};
 ghost use Rattle.floyd_elab_expressions.specs.Behind.{behind};
-ghost use Rattle.floyd_elab_expressions.specs.Clight.{cast_of as cast_of_lem, cast_into as cast_into_lem, or_own as or_own_lem, usual_or_own as usual_or_own_lem, common_or_own as common_or_own_lem, promoted_or_own as promoted_or_own_lem, left_type as left_type_lem, right_type as right_type_lem, combined as combined_lem};
+ghost use Rattle.floyd_elab_expressions.specs.Clight.{cast_of as cast_of_lem, cast_into as cast_into_lem, or_own as or_own_lem, usual_or_own as usual_or_own_lem, common_or_own as common_or_own_lem, promoted_or_own as promoted_or_own_lem, left_type as left_type_lem, right_type as right_type_lem, combine as combine_lem};
 
 use crate::nodes::{binary_of, cast_of};
 use crate::translation::Translation;
@@ -136,14 +136,14 @@ fn right_type(alloc: Global, op: IntOp, a: &Operand, b: &Operand) -> Result<CTyp
 }
 
 /// An operator on two operands, each cast to the type that the operator wants. The result has the type `t`.
-pub fn combined(
+pub fn combine(
     alloc: Global,
     op: IntOp,
     a: &Translation,
     b: &Translation,
     t: CType,
 ) -> Result<Expr, AllocError>
-    ensures { IfOk result (λ e. e ≡ combined_lem op (behind [] a.now) (behind [] b.now) t) }
+    ensures { IfOk result (λ e. e ≡ combine_lem op (behind [] a.now) (behind [] b.now) t) }
 {
     let left = left_type(alloc, op, &a.operand, &b.operand)?;
     let right = right_type(alloc, op, &a.operand, &b.operand)?;

@@ -1,4 +1,4 @@
-//! Expressions and effects of C turned into Clight.
+//! Expressions of C turned into Clight: the expression without reads, the statements that go before it, and its type.
 #![tactic(auto)]
 
 mod casts;
@@ -16,7 +16,7 @@ mod translation;
 mod truths;
 
 pub use casts::cast_into;
-pub use expressions::{prefixed, translated, valued};
+pub use expressions::{expression, rvalue, with_prefixes};
 pub use name_list::NameList;
 pub use names::{kth_name, pulled_name};
 pub use nodes::one;

@@ -1,6 +1,6 @@
 ghost use Rattle.std.specs.Prelude.{◌≡◌, ◌<◌, [], ◌∷◌, ◌++◌, OnOk, count_by, bytes_eq};
 ghost use Rattle.indexmap.specs.IndexMap.{spare};
-ghost use Rattle.floyd_elab_expressions.specs.Counted.{PutsCount};
+ghost use Rattle.floyd_elab_expressions.specs.CountClauses.{PutsCount};
 
 use floyd_text::Name;
 use indexmap::IndexMap;
@@ -9,15 +9,22 @@ use std::alloc::{AllocError, Global};
 use std::marker::Model;
 
 /// Names in order, with how many there are of each.
-#[derive(Drop)]
 pub struct NameList {
     names: Items<Name>,
     counts: IndexMap<Name, u64>,
 }
 
+impl Drop for NameList {
+    fn drop(self) {
+        let NameList { names, counts } = self;
+        drop(names);
+        drop(counts);
+    }
+}
+
 impl Model for NameList {
     ghost use Rattle.std.specs.Prelude.{ℕ, List};
-    ghost use Rattle.floyd_elab_expressions.specs.Counted.{AreCounted};
+    ghost use Rattle.floyd_elab_expressions.specs.CountClauses.{AreCounted};
 
     ghost Value = { List (List ℕ) };
 

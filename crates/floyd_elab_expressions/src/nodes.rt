@@ -80,7 +80,7 @@ pub(crate) fn is_memory(e: &Expr) -> bool
     ensures { result ≡ is_memory_lem e.now }
 {
     match e {
-        Expr::Var(_, _) | Expr::Deref(_, _) | Expr::Field(_, _, _) => true,
+        Expr::Var(_, _, _) | Expr::Deref(_, _) | Expr::Field(_, _, _) => true,
         Expr::Const(_, _)
         | Expr::Temp(_, _)
         | Expr::AddrOf(_, _)

@@ -4,14 +4,14 @@ ghost use Rattle.std.specs.Option.{option_copied};
 ghost use Rattle.floyd_text.specs.Gives.{Gives};
 ghost use Rattle.floyd_elab_expressions.specs.declared.progress.Progress.{Progress as Kept};
 ghost use Rattle.floyd_elab_expressions.specs.Behind.{behind};
-ghost use Rattle.floyd_elab_expressions.specs.Expressions.{variable_of as variable_of_lem, named_expr as named_expr_lem, named as named_lem, literal as literal_lem, prefix_expr as prefix_expr_lem, prefix_operator as prefix_operator_lem, cast_to as cast_to_lem, binary_operator as binary_operator_lem, indexed as indexed_lem, struct_expr as struct_expr_lem, member as member_lem, refused as refused_lem};
+ghost use Rattle.floyd_elab_expressions.specs.Expressions.{variable_of as variable_of_lem, name_expr as name_expr_lem, identifier as identifier_lem, literal as literal_lem, prefix_expr as prefix_expr_lem, prefix_operator as prefix_operator_lem, cast_to as cast_to_lem, binary_operator as binary_operator_lem, subscript as subscript_lem, struct_expr as struct_expr_lem, member as member_lem, nested_refusal as nested_refusal_lem};
 ghost use Rattle.floyd_ctyping.specs.Expressions.{nested_step, nested_assignment, nested_call};
 
-use crate::casts::{cast_into, combined, or_own, promoted_or_own};
+use crate::casts::{cast_into, combine, or_own, promoted_or_own};
 use crate::nodes::{address_of, bits_of, cast_of, deref_of, field_of, unary_of};
 use crate::progress::Progress;
 use crate::translation::Translation;
-use floyd_clight::{Expr, UnaryOp};
+use floyd_clight::{Binding, Expr, UnaryOp};
 use floyd_cparse_trees::{Identifier, Literal, MemberOp, PrefixOp};
 use floyd_ctypes::CType;
 use floyd_ctyping::{Operand, binary_type, element_type};
@@ -20,23 +20,24 @@ use floyd_int::IntOp;
 use floyd_text::{Halt, Name, Place};
 use std::alloc::{AllocError, Global};
 
-/// A variable by what it is called in Clight.
+/// A variable by what it is called in Clight: a temporary, or a place of the function's own or of the file.
 pub fn variable_of(storage: Storage, x: Name, t: CType) -> Expr
     ensures { result ≡ variable_of_lem storage x t }
 {
     match storage {
-        Storage::Global | Storage::Block => Expr::Var(x, t),
+        Storage::Global => Expr::Var(Binding::File, x, t),
+        Storage::Block => Expr::Var(Binding::Block, x, t),
         Storage::Temporary | Storage::Parameter => Expr::Temp(x, t),
     }
 }
 
-fn named_expr(
+fn name_expr(
     alloc: Global,
     i: &Identifier,
     t: &CType,
     meaning: Option<&Meaning>,
 ) -> Result<Expr, AllocError>
-    ensures { IfOk result (λ e. e ≡ named_expr_lem i.now t.now (option_copied meaning.entry)) }
+    ensures { IfOk result (λ e. e ≡ name_expr_lem i.now t.now (option_copied meaning.entry)) }
 {
     let t = t.share(alloc)?;
     match meaning {
@@ -47,20 +48,20 @@ fn named_expr(
                 ..
             },
         ) => Ok(variable_of(*storage, called.share()?, t)),
-        _ => Ok(Expr::Var(i.name.share()?, t)),
+        _ => Ok(Expr::Var(Binding::File, i.name.share()?, t)),
     }
 }
 
 /// A name that stands for this.
-pub(crate) fn named(
+pub(crate) fn identifier(
     alloc: Global,
     i: &Identifier,
     meaning: Option<&Meaning>,
 ) -> Result<Translation, Halt>
-    ensures exact { (progress : Kept) → Gives (λ a. (behind [] a, progress)) result (named_lem i.now (option_copied meaning.entry) progress) }
+    ensures exact { (progress : Kept) → Gives (λ a. (behind [] a, progress)) result (identifier_lem i.now (option_copied meaning.entry) progress) }
 {
-    let operand = floyd_ctyping::named(alloc, i, meaning)?;
-    let expr = named_expr(alloc, i, &operand.ctype, meaning)?;
+    let operand = floyd_ctyping::name_operand(alloc, i, meaning)?;
+    let expr = name_expr(alloc, i, &operand.ctype, meaning)?;
     Ok(Translation { expr, operand })
 }
 
@@ -144,19 +145,19 @@ pub fn binary_operator(
     let found = binary_type(alloc, structs, op, &a.operand, &b.operand)?;
     let operand = floyd_ctyping::gives_value(place, found)?;
     let t = operand.ctype.share(alloc)?;
-    let expr = combined(alloc, op, a, b, t)?;
+    let expr = combine(alloc, op, a, b, t)?;
     Ok(Translation { expr, operand })
 }
 
 /// `a[i]`, which is `*(a + i)`.
-pub(crate) fn indexed(
+pub(crate) fn subscript(
     alloc: Global,
     place: Place,
     a: &Translation,
     i: &Translation,
     progress: &Progress,
 ) -> Result<Translation, Halt>
-    ensures exact { (before : List Stmt) → Gives (λ r. (behind before r, progress.now)) result (indexed_lem place (behind [] a.now) (behind before i.now) progress.now) }
+    ensures exact { (before : List Stmt) → Gives (λ r. (behind before r, progress.now)) result (subscript_lem place (behind [] a.now) (behind before i.now) progress.now) }
 {
     let structs = &progress.tags.structs;
     let found = binary_type(alloc, structs, IntOp::Add, &a.operand, &i.operand)?;
@@ -164,7 +165,7 @@ pub(crate) fn indexed(
     let found = element_type(alloc, structs, &a.operand, &i.operand)?;
     let operand = floyd_ctyping::gives_object(place, found)?;
     let t = operand.ctype.share(alloc)?;
-    let expr = combined(alloc, IntOp::Add, a, i, sum.ctype)?;
+    let expr = combine(alloc, IntOp::Add, a, i, sum.ctype.share(alloc)?)?;
     let expr = deref_of(alloc, expr, t)?;
     Ok(Translation { expr, operand })
 }
@@ -177,7 +178,7 @@ fn struct_expr(alloc: Global, op: MemberOp, a: &Translation) -> Result<Expr, All
         MemberOp::Dot => a.expr.share(alloc),
         MemberOp::Arrow => {
             let own = a.operand.value_type(alloc)?;
-            let to = shared(alloc, floyd_elab_names::pointee(&own))?;
+            let to = share_type(alloc, floyd_elab_names::pointee(&own))?;
             let t = or_own(alloc, to, &a.operand)?;
             deref_of(alloc, a.expr.share(alloc)?, t)
         }
@@ -185,7 +186,7 @@ fn struct_expr(alloc: Global, op: MemberOp, a: &Translation) -> Result<Expr, All
 }
 
 /// The same type, if there is one.
-fn shared(alloc: Global, t: Option<&CType>) -> Result<Option<CType>, AllocError>
+fn share_type(alloc: Global, t: Option<&CType>) -> Result<Option<CType>, AllocError>
     ensures { IfOk result (λ o. o ≡ option_copied t.entry) }
 {
     match t {
@@ -213,48 +214,39 @@ pub(crate) fn member(
 }
 
 /// A step inside an expression is refused.
-pub(crate) fn refused_step(
+pub(crate) fn refuse_step(
     alloc: Global,
     place: Place,
     a: Translation,
     progress: &Progress,
 ) -> Result<Translation, Halt>
-    ensures exact { (before : List Stmt) → Gives (λ r. (behind before r, progress.now)) result (refused_lem (nested_step place a.operand) (behind before a) progress.now) }
+    ensures exact { (before : List Stmt) → Gives (λ r. (behind before r, progress.now)) result (nested_refusal_lem (nested_step place a.operand) (behind before a) progress.now) }
 {
     let operand = floyd_ctyping::nested_step(alloc, &progress.tags, place, &a.operand)?;
-    Ok(Translation {
-        expr: a.expr,
-        operand,
-    })
+    Ok(a.with_operand(operand))
 }
 
 /// An assignment inside an expression is refused.
-pub(crate) fn refused_assignment(
+pub(crate) fn refuse_assignment(
     alloc: Global,
     place: Place,
     a: Translation,
 ) -> Result<Translation, Halt>
-    ensures exact { (before : List Stmt) (progress : Kept) → Gives (λ r. (behind before r, progress)) result (refused_lem (nested_assignment place a.operand) (behind before a) progress) }
+    ensures exact { (before : List Stmt) (progress : Kept) → Gives (λ r. (behind before r, progress)) result (nested_refusal_lem (nested_assignment place a.operand) (behind before a) progress) }
 {
     let operand = floyd_ctyping::nested_assignment(place, &a.operand)?;
-    Ok(Translation {
-        expr: a.expr,
-        operand,
-    })
+    Ok(a.with_operand(operand))
 }
 
 /// A call inside an expression is refused.
-pub(crate) fn refused_call(
+pub(crate) fn refuse_call(
     alloc: Global,
     place: Place,
     count: usize,
     a: Translation,
 ) -> Result<Translation, Halt>
-    ensures exact { (before : List Stmt) (progress : Kept) → Gives (λ r. (behind before r, progress)) result (refused_lem (nested_call place count a.operand) (behind before a) progress) }
+    ensures exact { (before : List Stmt) (progress : Kept) → Gives (λ r. (behind before r, progress)) result (nested_refusal_lem (nested_call place count a.operand) (behind before a) progress) }
 {
     let operand = floyd_ctyping::nested_call(alloc, place, count, &a.operand)?;
-    Ok(Translation {
-        expr: a.expr,
-        operand,
-    })
+    Ok(a.with_operand(operand))
 }

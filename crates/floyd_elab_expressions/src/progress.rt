@@ -11,7 +11,6 @@ use floyd_text::{Halt, Name};
 use std::alloc::{AllocError, Global};
 
 /// What elaboration keeps while it goes through a function.
-#[derive(Drop)]
 pub struct Progress {
     /// The structs of the file.
     pub tags: Tags,
@@ -25,7 +24,38 @@ pub struct Progress {
     pub blocks: LocalList,
 }
 
+impl Drop for Progress {
+    fn drop(self) {
+        let Progress {
+            tags,
+            drawn: _,
+            names,
+            temporaries,
+            blocks,
+        } = self;
+        drop(tags);
+        drop(names);
+        drop(temporaries);
+        drop(blocks);
+    }
+}
+
 impl Progress {
+    /// The structs, the temporaries that are no parameters, and the variables with a block.
+    pub fn into_parts(self) -> (Tags, LocalList, LocalList)
+        ensures { result ≡ (self.tags, self.temporaries, self.blocks) }
+    {
+        let Progress {
+            tags,
+            drawn: _,
+            names,
+            temporaries,
+            blocks,
+        } = self;
+        drop(names);
+        (tags, temporaries, blocks)
+    }
+
     /// Draws the next number.
     pub fn draw(&mut self) -> Result<u64, Halt>
         ensures exact { Gives (λ k. (k, self.new)) result (draw_lem self.old) }

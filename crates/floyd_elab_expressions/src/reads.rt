@@ -1,7 +1,7 @@
 ghost use Rattle.std.specs.Prelude.{◌≡◌};
 ghost use Rattle.floyd_text.specs.Gives.{Gives};
 ghost use Rattle.floyd_elab_expressions.specs.Behind.{behind};
-ghost use Rattle.floyd_elab_expressions.specs.Expressions.{read as read_lem, pulled as pulled_lem, before_operator as before_operator_lem, before_member as before_member_lem};
+ghost use Rattle.floyd_elab_expressions.specs.Expressions.{read as read_lem, pull_read as pull_read_lem, before_operator as before_operator_lem, before_member as before_member_lem};
 
 use crate::nodes::is_memory;
 use crate::progress::Progress;
@@ -23,19 +23,19 @@ pub fn read(
     ensures exact { Gives (λ r. (behind out.new r, progress.new)) result (read_lem (behind out.old a.now) progress.old) }
 {
     if is_memory(&a.expr) && is_scalar(&a.operand.ctype) {
-        return pulled(alloc, a, progress, out);
+        return pull_read(alloc, a, progress, out);
     }
     Ok(a.share(alloc)?)
 }
 
 /// Sets the next temporary to it.
-fn pulled(
+fn pull_read(
     alloc: Global,
     a: &Translation,
     progress: &mut Progress,
     out: &mut StmtList,
 ) -> Result<Translation, Halt>
-    ensures exact { Gives (λ r. (behind out.new r, progress.new)) result (pulled_lem (behind out.old a.now) progress.old) }
+    ensures exact { Gives (λ r. (behind out.new r, progress.new)) result (pull_read_lem (behind out.old a.now) progress.old) }
 {
     let t = a.operand.ctype.share(alloc)?;
     let x = progress.pull(alloc, t.share(alloc)?)?;

@@ -2,7 +2,7 @@ ghost use Rattle.std.specs.Prelude.{◌≡◌, [], IfOk};
 ghost use Rattle.floyd_elab_expressions.specs.Behind.{behind};
 ghost use Rattle.floyd_elab_expressions.specs.Clight.{begins_with_not as begins_with_not_lem, is_truth as is_truth_lem, test_of as test_of_lem};
 
-use crate::casts::{combined, is_comparison};
+use crate::casts::{combine, is_comparison};
 use crate::nodes::zero;
 use crate::translation::Translation;
 use floyd_clight::Expr;
@@ -51,5 +51,5 @@ pub fn test_of(alloc: Global, e: &CExpr, a: &Translation) -> Result<Expr, AllocE
             standing: Standing::Zero,
         },
     };
-    combined(alloc, IntOp::Ne, a, &zero, CType::Int(IntKind::I32))
+    combine(alloc, IntOp::Ne, a, &zero, CType::Int(IntKind::I32))
 }

@@ -15,12 +15,12 @@ use Rattle.floyd_int.proofs.KindLaws.{value-repr}
 use Rattle.floyd_ctypes.specs.declared.ctype.CType.{Int}
 use Rattle.floyd_cparse_trees.specs.declared.expressions.CExpr as e
 use Rattle.floyd_ctyping.specs.declared.operand.Standing.{Standing}
-use Rattle.floyd_elab_names.specs.Types.{promoted, usual, int_type}
+use Rattle.floyd_elab_names.specs.Types.{promote, usual, int_type}
 use Rattle.floyd_clight.specs.declared.syntax.Expr.{Expr, Temp}
 use Rattle.floyd_clight.specs.declared.syntax.Stmt.{Stmt, Set, If}
-use Rattle.floyd_clight.specs.Evaluation.{Temps, with_temp, eval_by}
-use Rattle.floyd_clight.specs.Machine.{is_true}
-use Rattle.floyd_elab_expressions.specs.Clight.{Translated, is_truth, test_of, combined, literal_zero, sequence, pulled_name}
+use Rattle.floyd_clight_machine.specs.Evaluation.{Temps, with_temp, eval_by}
+use Rattle.floyd_clight_machine.specs.Machine.{is_true}
+use Rattle.floyd_elab_expressions.specs.Clight.{Translated, is_truth, test_of, combine, literal_zero, sequence, pulled_name}
 use Rattle.floyd_elab_expressions.specs.Clight as clight
 use Rattle.floyd_elab_laws.specs.Conversions.{converted}
 use Rattle.floyd_elab_laws.specs.Numbers.{Number, of_both, truth, is_zero, operation}
@@ -61,7 +61,7 @@ pub one_as : Vint 1 ≡ value_as I32 (truth true)
 unfolding repr_of
 one_as = refl
 
-usual_int : (k : IntKind) → usual k I32 ≡ promoted k
+usual_int : (k : IntKind) → usual k I32 ≡ promote k
 usual_int I8 = refl
 usual_int U8 = refl
 usual_int I16 = refl
@@ -91,7 +91,7 @@ compared : (k : IntKind) (v : Option ℤ) → IfSome v (InRange k) → of_both (
 compared k None h = refl
 compared k (Some z) h = ap₂ (operation Ne k) (converted_same k z h) (converted_same k (pos 0) (zero_range k)) ∙ differs k z h
 
-promoted_still : (k : IntKind) (v : Option ℤ) → IfSome v (InRange k) → IfSome v (InRange (promoted k))
+promoted_still : (k : IntKind) (v : Option ℤ) → IfSome v (InRange k) → IfSome v (InRange (promote k))
 promoted_still k None h = tt
 promoted_still k (Some z) h = promotion_range k z h
 
@@ -111,12 +111,12 @@ test_evals W c n before x st w f h = by (is_truth c) refl
     zero_evals : Evals W.structs W.look w clight.zero I32 (Some (pos 0))
     zero_evals = record { ctype = refl; range = truth_range false; value = ap Some zero_as }
 
-    by : (t : Bool) → is_truth c ≡ t → eval_by W.structs W.look w (if t then x else combined Ne a literal_zero int_type) ≡ option_map (value_as I32) (option_map (λ z. truth (not (is_zero z))) n.value)
+    by : (t : Bool) → is_truth c ≡ t → eval_by W.structs W.look w (if t then x else combine Ne a literal_zero int_type) ≡ option_map (value_as I32) (option_map (λ z. truth (not (is_zero z))) n.value)
     by true q = h.value ∙ ap (λ k. option_map (value_as k) n.value) (f q).kind ∙ as_truth n.value (f q).value
     by false q =
         (arithmetic_evals W.structs W.look w Ne (λ k l a b. refl) x clight.zero n.kind I32 (usual n.kind I32) n.value (Some (pos 0)) (usual_wide n.kind I32) h zero_evals).value
         ∙ ap (λ k. option_map (value_as I32) (of_both (operation Ne k) (option_map (converted k) n.value) (Some (converted k (pos 0))))) (usual_int n.kind)
-        ∙ ap (option_map (value_as I32)) (compared (promoted n.kind) n.value (promoted_still n.kind n.value h.range))
+        ∙ ap (option_map (value_as I32)) (compared (promote n.kind) n.value (promoted_still n.kind n.value h.range))
 
 -- the branch that a test takes
 if_runs : (W : Setting) (x : Expr) (a b : Stmt) (s : Temps) (v : Option Value) → eval_by W.structs W.look s x ≡ v → run_all W.structs W.look (If x a b ∷ []) s ≡ option_and_then (λ t. if t then run W.structs W.look a s else run W.structs W.look b s) (option_and_then is_true v)
@@ -163,7 +163,7 @@ set_ends j l z y f a b c (stuck i) g h = stuck (g i)
 set_ends {W} {d} {e} {s} j l z y f a b c (goes t n i) g h = set_at W d e j s t l z y f a b c n (h t (i t (kept_same W e t)))
 
 -- a branch that ends with setting the temporary
-pub part_ends : (W : Setting) (straight : Bool) (n : Number) (lo hi d e j : ℕ) (before : List Stmt) (x y : Expr) (l : IntKind) (z : Option ℤ) (t : Temps) → Facts W straight n lo hi before x → W.first ≤ d → d < j → d ≤ lo → hi ≤ e → j ≤ e → e ≤ W.last → Holds W.scopes W.variables t → (n.value ≡ None → z ≡ None) →
+pub part_ends : (W : Setting) (straight : Bool) (n : Number) (lo hi d e j : ℕ) (before : List Stmt) (x y : Expr) (l : IntKind) (z : Option ℤ) (t : Temps) → Facts W straight n lo hi before x → W.first ≤ d → d < j → d ≤ lo → hi ≤ e → j ≤ e → e ≤ W.last → Holds W.among W.scopes W.variables t → (n.value ≡ None → z ≡ None) →
     ((w : Temps) → Evals W.structs W.look w x n.kind n.value → eval_by W.structs W.look w y ≡ option_map (value_as l) z) → Ends W d e t l z (Temp (pulled_name j) (Int l)) (run W.structs W.look (sequence (before ++ Set (pulled_name j) y ∷ [])) t)
 part_ends W straight n lo hi d e j before x y l z t f a b c m p q held g h =
     subst (Ends W d e t l z (Temp (pulled_name j) (Int l))) (sym (run_sequence W.structs W.look (before ++ Set (pulled_name j) y ∷ []) t ∙ run_append W.structs W.look before (Set (pulled_name j) y ∷ []) t))

@@ -12,24 +12,24 @@ use Rattle.floyd_cparse_trees.specs.declared.statements.CStatement as c
 use Rattle.floyd_cparse_trees.specs.declared.statements.LocalDeclarator.{LocalDeclarator}
 use Rattle.floyd_elab_names.specs.declared.meaning.Meaning.{Meaning}
 use Rattle.floyd_elab_names.specs.declared.meaning.Meaning.TheVariants as m
-use Rattle.floyd_elab_names.specs.Doing.{◌>>=◌, pure, unless, or_refuse}
+use Rattle.floyd_elab_names.specs.Refusing.{◌>>=◌, pure, unless, or_refuse}
 use Rattle.floyd_elab_names.specs.Refusals.{ill_typed}
 use Rattle.floyd_elab_names.specs.Scopes.{Scopes, with_meaning}
 use Rattle.floyd_elab_names.specs.Types.{is_void}
 use Rattle.floyd_ctyping.specs.Operators as o
 use Rattle.floyd_elab_names.specs.Declarators.{base_type, name_of, name_or_none}
-use Rattle.floyd_ctyping.specs.Expressions.{tested}
+use Rattle.floyd_ctyping.specs.Expressions.{check_test}
 use Rattle.floyd_clight.specs.declared.syntax.Expr.{Expr, Const, Temp, Var, Deref', AddrOf', Unary', Binary', Cast', Field', SizeOf}
 use Rattle.floyd_clight.specs.declared.syntax.Stmt as stmt
 use Rattle.floyd_clight.specs.declared.syntax.Stmt.{Stmt}
 use Rattle.floyd_elab_expressions.specs.Clight.{Translated, cast_into, sequence, store}
 use Rattle.floyd_elab_expressions.specs.declared.progress.Progress.{Progress}
 use Rattle.floyd_elab_expressions.specs.Progress.{Elaborating, typing}
-use Rattle.floyd_elab_expressions.specs.Expressions.{read, translated, valued, prefixed, variable_of, binary_operator}
-use Rattle.floyd_elab_effects.specs.Effects.{Calling, sent_to, as_target, updated, step_op, literal_one, stepped, passed, calling, right_side, assignment, effect}
+use Rattle.floyd_elab_expressions.specs.Expressions.{read, expression, rvalue, with_prefixes, variable_of, binary_operator}
+use Rattle.floyd_elab_effects.specs.Effects.{Calling, send_to, as_target, update, step_op, literal_one, step_effect, argument_row, calling, right_side, assignment, effect}
 use Rattle.floyd_elab_addresses.specs.Addresses.{in_items, in_initialiser, in_declarators}
-use Rattle.floyd_elab_statements.specs.Locals.{nowhere, declared, target_of, initialised, declarators}
-use Rattle.floyd_elab_statements.specs.Statements.{test, loop_test, optional_test, optional_effect, returned, statement, items, body}
+use Rattle.floyd_elab_statements.specs.Locals.{nowhere, declare_variable, target_of, initialise, declarators}
+use Rattle.floyd_elab_statements.specs.Statements.{test, loop_test, optional_test, optional_effect, return_statement, statement, items, body}
 use Rattle.floyd_elab_laws.specs.Reads.{reads, place_reads, ReadsByPulls}
 use Rattle.floyd_elab_laws.proofs.GivesLemmas.{Gives, after, here, passing}
 use Rattle.floyd_elab_laws.proofs.ReadLemmas.{Fine, fine_append, fine_sequence, fine_if, fine_loop, Place, Value, Places, Values, read_value, into_reads, test_reads, binary_value, variable_place, prefixed_places, places, valued_values}
@@ -39,7 +39,7 @@ use Rattle.floyd_elab_laws.proofs.ReadLemmas.{Fine, fine_append, fine_sequence, 
 store_fine : (x y : Expr) → place_reads x ≡ false → reads y ≡ false → ReadsByPulls (store x y)
 store_fine (Temp x t) y h g = inl g
 store_fine (Const v t) y h g = (h, g)
-store_fine (Var x t) y h g = (h, g)
+store_fine (Var bound x t) y h g = (h, g)
 store_fine (Deref' p e t) y h g = (h, g)
 store_fine (AddrOf' p e t) y h g = (h, g)
 store_fine (Unary' op p e t) y h g = (h, g)
@@ -52,7 +52,7 @@ store_fine (SizeOf of t) y h g = (h, g)
 abbrev pub Makes : Elaborating (List Stmt) → Type 0
 Makes t = (p : Progress) → Gives (t p) (λ r. Fine r.0)
 
-sent_fine : (place : position.Place) (target value : Translated) (before : List Stmt) → Place target → reads value.expr ≡ false → Fine before → Makes (sent_to place target value before)
+sent_fine : (place : position.Place) (target value : Translated) (before : List Stmt) → Place target → reads value.expr ≡ false → Fine before → Makes (send_to place target value before)
 sent_fine place target value before h g f = λ p.
     passing (unless (ill_typed place) (o.fits_into target.operand.ctype value.operand) p) (λ x s.
     here (fine_append before (store target.expr (cast_into target.operand.ctype value) ∷ []) f (store_fine target.expr (cast_into target.operand.ctype value) h.place (into_reads target.operand.ctype value g), tt)))
@@ -60,13 +60,13 @@ sent_fine place target value before h g f = λ p.
 target_place : (place : position.Place) (target : Translated) → Place target → Places (as_target place target)
 target_place place target h = λ p. passing (unless (ill_typed place) (o.is_target target.operand) p) (λ x s. here h)
 
-updated_fine : (op : IntOp) (place : position.Place) (target : Translated) (value : Elaborating Translated) → Place target → Values value → Makes (updated op place target value)
+updated_fine : (op : IntOp) (place : position.Place) (target : Translated) (value : Elaborating Translated) → Place target → Values value → Makes (update op place target value)
 updated_fine op place target value h g = λ p.
     after (read target p) (read_value target p h) (λ a s f.
     after (value s) (g s) (λ b u k.
     after (binary_operator op place a b u) (binary_value op place a b u f k) (λ sum v l. sent_fine place target sum sum.before h l.reads l.before v)))
 
-stepped_fine : (op : StepOp) (place : position.Place) (target : Translated) → Place target → Makes (stepped op place target)
+stepped_fine : (op : StepOp) (place : position.Place) (target : Translated) → Place target → Makes (step_effect op place target)
 stepped_fine op place target h = λ p.
     passing (as_target place target p) (λ x s. updated_fine (step_op op) place target (pure literal_one) h (λ q. here (record { before = tt; reads = refl })) s)
 
@@ -78,19 +78,19 @@ pub record IsCalled (call : Calling) : Type 0 where
   pub arguments : AllByRecursion (λ e. reads e ≡ false) call.arguments
 
 module _ (scopes : Scopes) where
-  passed_fine : {m : _} (place : position.Place) (ts : List CType) (arguments : e.Row_of-CExpr m) (p : Progress) → Gives (passed scopes place ts arguments p) (λ r. Fine r.0.0 × AllByRecursion (λ e. reads e ≡ false) r.0.1)
+  passed_fine : {m : _} (place : position.Place) (ts : List CType) (arguments : e.Row_of-CExpr m) (p : Progress) → Gives (argument_row scopes place ts arguments p) (λ r. Fine r.0.0 × AllByRecursion (λ e. reads e ≡ false) r.0.1)
   passed_fine place [] arguments p = here (tt, tt)
   passed_fine place (t ∷ ts) e.end_of-CExpr p = here (tt, tt)
   passed_fine place (t ∷ ts) (e.more_of-CExpr argument rest) p =
-      after (valued scopes argument p) (valued_values scopes argument p) (λ a s f.
+      after (rvalue scopes argument p) (valued_values scopes argument p) (λ a s f.
       passing (unless (ill_typed place) (o.fits_into t a.operand) s) (λ x u.
-      after (passed scopes place ts rest u) (passed_fine place ts rest u) (λ more v g. here (fine_append a.before more.0 f.before g.0, (into_reads t a f.reads, g.1)))))
+      after (argument_row scopes place ts rest u) (passed_fine place ts rest u) (λ more v g. here (fine_append a.before more.0 f.before g.0, (into_reads t a f.reads, g.1)))))
 
   calling_fine : {m : _} (function : e.CExpr) (place : position.Place) (count : ℕ) (arguments : e.Row_of-CExpr m) (p : Progress) → Gives (calling scopes function place count arguments p) (λ r. IsCalled r.0)
   calling_fine function place count arguments p =
-      after (valued scopes function p) (valued_values scopes function p) (λ f s h.
-      passing (or_refuse (ill_typed place) (o.called count f.operand) s) (λ signature u.
-      after (passed scopes place signature.0 arguments u) (passed_fine place signature.0 arguments u) (λ all v g.
+      after (rvalue scopes function p) (valued_values scopes function p) (λ f s h.
+      passing (or_refuse (ill_typed place) (o.callee_signature count f.operand) s) (λ signature u.
+      after (argument_row scopes place signature.0 arguments u) (passed_fine place signature.0 arguments u) (λ all v g.
       here (record { before = fine_append f.before all.0 h.before g.0; callee = h.reads; arguments = g.1 }))))
 
   right_values : (r : e.CExpr) → Values (right_side scopes r)
@@ -112,14 +112,14 @@ module _ (scopes : Scopes) where
   assigned_fine : (place : position.Place) (op : Option IntOp) (r : e.CExpr) (target : Translated) → Place target → Makes (assignment scopes place op r target)
   assigned_fine place None r target h = λ p.
       after (right_side scopes r p) (right_values r p) (λ value s f. sent_fine place target value (target.before ++ value.before) h f.reads (fine_append target.before value.before h.before f.before) s)
-  assigned_fine place (Some op) r target h = updated_fine op place target (valued scopes r) h (valued_values scopes r)
+  assigned_fine place (Some op) r target h = updated_fine op place target (rvalue scopes r) h (valued_values scopes r)
 
   pub effect_fine : (x : e.CExpr) → Makes (effect scopes x)
   effect_fine (e.Assign' p (e.more_of-CExpr target e.end_of-CExpr) op place q (e.more_of-CExpr r e.end_of-CExpr)) = λ p.
-      after ((translated scopes target >>= as_target place) p) (after (translated scopes target p) (places scopes target p) (λ a s f. target_place place a f s)) (λ a s f. assigned_fine place op r a f s)
-  effect_fine (e.PostfixStep' p (e.more_of-CExpr operand e.end_of-CExpr) op place) = λ p. after (translated scopes operand p) (places scopes operand p) (λ a s f. stepped_fine op place a f s)
+      after ((expression scopes target >>= as_target place) p) (after (expression scopes target p) (places scopes target p) (λ a s f. target_place place a f s)) (λ a s f. assigned_fine place op r a f s)
+  effect_fine (e.PostfixStep' p (e.more_of-CExpr operand e.end_of-CExpr) op place) = λ p. after (expression scopes operand p) (places scopes operand p) (λ a s f. stepped_fine op place a f s)
   effect_fine (e.Prefixed' (before.Step op place ∷ rest) p (e.more_of-CExpr operand e.end_of-CExpr)) = λ p.
-      after (prefixed scopes rest (translated scopes operand) p) (prefixed_places scopes rest (translated scopes operand) (places scopes operand) p) (λ a s f. stepped_fine op place a f s)
+      after (with_prefixes scopes rest (expression scopes operand) p) (prefixed_places scopes rest (expression scopes operand) (places scopes operand) p) (λ a s f. stepped_fine op place a f s)
   effect_fine (e.Call' p (e.more_of-CExpr function e.end_of-CExpr) place shape arguments) = λ p.
       after (calling scopes function place (length shape) arguments p) (calling_fine function place (length shape) arguments p) (λ call s h. here (fine_append call.before _ h.before ((h.callee, h.arguments), tt)))
   effect_fine x = λ p. here tt
@@ -128,8 +128,8 @@ module _ (scopes : Scopes) where
 
   test_fine : (place : position.Place) (x : e.CExpr) (p : Progress) → Gives (test scopes place x p) (λ r. Fine r.0.0 × (reads r.0.1 ≡ false))
   test_fine place x p =
-      after (valued scopes x p) (valued_values scopes x p) (λ a s f.
-      passing (typing (tested place a.operand) s) (λ y u. here (f.before, test_reads x a f.reads)))
+      after (rvalue scopes x p) (valued_values scopes x p) (λ a s f.
+      passing (typing (check_test place a.operand) s) (λ y u. here (f.before, test_reads x a f.reads)))
 
   loop_fine : (place : position.Place) (x : e.CExpr) → Makes (loop_test scopes place x)
   loop_fine place x = λ p.
@@ -143,7 +143,7 @@ module _ (scopes : Scopes) where
   optional_effect_fine None = λ p. here tt
   optional_effect_fine (Some x) = effect_fine x
 
-  returned_fine : (result : CType) (place : position.Place) (x : Option e.CExpr) → Makes (returned scopes result place x)
+  returned_fine : (result : CType) (place : position.Place) (x : Option e.CExpr) → Makes (return_statement scopes result place x)
   returned_fine result place None = λ p. passing (unless (ill_typed place) (is_void result) p) (λ y s. here (tt, tt))
   returned_fine result place (Some x) = λ p.
       passing (unless (ill_typed place) (not (is_void result)) p) (λ y s.
@@ -153,7 +153,7 @@ module _ (scopes : Scopes) where
 
 -- ---- local variables
 
-initialised_fine : (scopes : Scopes) (meaning : Meaning) (right : Option (position.Place × e.CExpr)) → Makes (initialised scopes (target_of meaning) right)
+initialised_fine : (scopes : Scopes) (meaning : Meaning) (right : Option (position.Place × e.CExpr)) → Makes (initialise scopes (target_of meaning) right)
 initialised_fine scopes (m.Variable x t storage) (Some right) = λ p.
     let target : Translated = record { before = []; expr = variable_of storage x t; operand = o.object_of_type t } in
     after (as_target right.0 target p) (target_place right.0 target (variable_place storage x (o.object_of_type t)) p) (λ a s f. assigned_fine scopes right.0 None right.1 a f s)
@@ -164,9 +164,9 @@ initialised_fine scopes (m.Function t) right = λ p. here tt
 declarators_fine : (scopes : Scopes) (base : CType) (ds : List LocalDeclarator) (rest : List ℕ → Bool) (p : Progress) → Gives (declarators scopes base ds rest p) (λ r. Fine r.0.0)
 declarators_fine scopes base [] rest p = here tt
 declarators_fine scopes base (d ∷ ds) rest p =
-    passing (declared scopes base d.declarator (λ x. in_initialiser x d.initialiser || in_declarators x ds (rest x)) p) (λ meaning s.
+    passing (declare_variable scopes base d.declarator (λ x. in_initialiser x d.initialiser || in_declarators x ds (rest x)) p) (λ meaning s.
     let inner : Scopes = with_meaning (name_or_none (name_of d.declarator)) meaning scopes in
-    after (initialised inner (target_of meaning) d.initialiser s) (initialised_fine inner meaning d.initialiser s) (λ first u f.
+    after (initialise inner (target_of meaning) d.initialiser s) (initialised_fine inner meaning d.initialiser s) (λ first u f.
     after (declarators inner base ds rest u) (declarators_fine inner base ds rest u) (λ more v g. here (fine_append first more.0 f g))))
 
 -- ---- statements
@@ -229,7 +229,7 @@ module _ (result : CType) where
 
 -- ---- what was made
 
-pub values_read : (scopes : Scopes) (x : e.CExpr) (p q : Progress) (t : Translated) → valued scopes x p ≡ Ok (t, q) → AllByRecursion ReadsByPulls t.before × (reads t.expr ≡ false)
+pub values_read : (scopes : Scopes) (x : e.CExpr) (p q : Progress) (t : Translated) → rvalue scopes x p ≡ Ok (t, q) → AllByRecursion ReadsByPulls t.before × (reads t.expr ≡ false)
 values_read scopes x p q t h =
     let v : Value t = (subst (λ r. Gives r (λ r. Value r.0)) h (valued_values scopes x p)).holds in
     (v.before, v.reads)

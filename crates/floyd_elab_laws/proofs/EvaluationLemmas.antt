@@ -10,13 +10,13 @@ use Rattle.floyd_int.specs.Kind.{InRange, repr_of}
 use Rattle.floyd_int.specs.Operation.{left_shift, right_shift, negation_of}
 use Rattle.floyd_ctypes.specs.declared.ctype.CType.{Int}
 use Rattle.floyd_ctypes.specs.Structs.{Structs}
-use Rattle.floyd_elab_names.specs.Types.{same_kind, promoted}
+use Rattle.floyd_elab_names.specs.Types.{same_kind, promote}
 use Rattle.floyd_clight.specs.declared.syntax.Expr.{Expr}
 use Rattle.floyd_clight.specs.declared.syntax.UnaryOp.{UnaryOp}
 use Rattle.floyd_clight.specs.declared.syntax.UnaryOp.TheVariants.{Neg, Complement, Not}
 use Rattle.floyd_clight.specs.Types.{type_of}
-use Rattle.floyd_clight.specs.Integers as i
-use Rattle.floyd_clight.specs.Evaluation.{Temps, Look, eval_by, unary_value, binary_value, cast_value}
+use Rattle.floyd_clight_machine.specs.Integers as i
+use Rattle.floyd_clight_machine.specs.Evaluation.{Temps, Look, eval_by, unary_value, binary_value, cast_value}
 use Rattle.floyd_elab_expressions.specs.Clight.{unary_of, binary_of, cast_of, is_memory}
 use Rattle.floyd_elab_laws.specs.Conversions.{converted}
 use Rattle.floyd_elab_laws.specs.Numbers.{of_both, truth, is_zero, negation, complement, result_kind, operation, shift}
@@ -51,7 +51,7 @@ pub kept_range : (k : IntKind) (v : Option ℤ) → IfSome (option_map (converte
 kept_range k None = tt
 kept_range k (Some z) = converted_range k z
 
-pub promoted_range : (k : IntKind) (v : Option ℤ) → IfSome v (InRange k) → IfSome v (InRange (promoted k))
+pub promoted_range : (k : IntKind) (v : Option ℤ) → IfSome v (InRange k) → IfSome v (InRange (promote k))
 promoted_range k None h = tt
 promoted_range k (Some z) h = promotion_range k z h
 
@@ -148,7 +148,7 @@ module _ (structs : Structs) (look : Look) (temps : Temps) where
       record {
         ctype = refl;
         range = then_range r g v c;
-        value = ap₂ (λ t u. option_and_then (unary_value op t) u) h.ctype h.value ∙ unary_values op k r g v f h.range;
+        value = ap₂ (λ t u. option_and_then (unary_value look op t) u) h.ctype h.value ∙ unary_values op k r g v f h.range;
       }
 
   binary_evals : (op : IntOp) (x y : Expr) (j l r : IntKind) (u v : Option ℤ) (g : ℤ → ℤ → Option ℤ) → Evals x j u → Evals y l v → ((a b : ℤ) → InRange j a → InRange l b → i.binary op j l (value_as j a) (value_as l b) ≡ option_map (value_as r) (g a b)) → ((a b : ℤ) → IfSome (g a b) (InRange r)) → Evals (binary_of op x y (Int r)) r (of_both g u v)
@@ -157,7 +157,7 @@ module _ (structs : Structs) (look : Look) (temps : Temps) where
         ctype = refl;
         range = both_range r g u v c;
         value =
-            ap₂ (λ s t. option_and_then (λ a. option_and_then (binary_value op s t a) (eval_by structs look temps y)) (eval_by structs look temps x)) hx.ctype hy.ctype
+            ap₂ (λ s t. option_and_then (λ a. option_and_then (binary_value structs look op s t a) (eval_by structs look temps y)) (eval_by structs look temps x)) hx.ctype hy.ctype
             ∙ ap₂ (λ s t. option_and_then (λ a. option_and_then (i.binary op j l a) t) s) hx.value hy.value
             ∙ binary_values op j l r g u v f hx.range hy.range;
       }

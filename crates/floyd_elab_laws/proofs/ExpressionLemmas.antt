@@ -1,5 +1,6 @@
 -- What elaboration makes of expressions of integers.
-use Rattle.std.proofs.Common.{◌≡◌, ℕ, ◌+◌, ◌≤◌, Bool, true, false, not, ℤ, List, [], ◌∷◌, ◌++◌, Option, Some, None, if◌then◌else◌, refl, sym, ◌∙◌, ap, subst, arith, true≢false}
+use Rattle.std.proofs.Common.{◌≡◌, ℕ, ◌+◌, ◌≤◌, Bool, true, false, not, ◌||◌, ℤ, List, [], ◌∷◌, ◌++◌, Option, Some, None, if◌then◌else◌, refl, sym, ◌∙◌, ap, subst, arith, true≢false, bytes_eq}
+use Rattle.std.proofs.lemmas.Slice.Eq.{bytes_eq-Decides}
 use Rattle.std.specs.Prelude.{IfSome, option_map, option_and_then}
 use Rattle.floyd_text.specs.declared.place.Place.{Place}
 use Rattle.floyd_int.specs.declared.kinds.IntKind.{IntKind}
@@ -10,24 +11,24 @@ use Rattle.floyd_cparse_trees.specs.declared.expressions.CExpr as e
 use Rattle.floyd_cparse_trees.specs.declared.expressions.BinaryOp.TheVariants as binary
 use Rattle.floyd_ctyping.specs.declared.operand.Standing.{Standing}
 use Rattle.floyd_ctyping.specs.declared.operand.Standing.TheVariants as standing
-use Rattle.floyd_elab_names.specs.Doing.{◌>>=◌, ◌>>◌, pure}
+use Rattle.floyd_elab_names.specs.Refusing.{◌>>=◌, ◌>>◌, pure}
 use Rattle.floyd_elab_names.specs.Scopes.{Scopes, meaning_of}
 use Rattle.floyd_elab_names.specs.Types.{usual, int_type}
 use Rattle.floyd_ctyping.specs.Operators as o
 use Rattle.floyd_ctyping.specs.Expressions as typed
 use Rattle.floyd_clight.specs.declared.syntax.Expr.{Expr, Temp}
 use Rattle.floyd_clight.specs.declared.syntax.Stmt.{Stmt, Set, If}
-use Rattle.floyd_clight.specs.Evaluation.{Temps}
+use Rattle.floyd_clight_machine.specs.Evaluation.{Temps}
 use Rattle.floyd_elab_expressions.specs.Clight.{Translated, cast_into, is_truth, test_of, sequence, zero, one, pulled_name}
 use Rattle.floyd_elab_expressions.specs.declared.progress.Progress.{Progress}
 use Rattle.floyd_elab_expressions.specs.Progress.{Elaborating, typing, draw, add_temporary, pull}
-use Rattle.floyd_elab_expressions.specs.Expressions.{read, translated, truth, both, one_of}
+use Rattle.floyd_elab_expressions.specs.Expressions.{read, expression, truth, both, one_of}
 use Rattle.floyd_elab_laws.specs.Conversions.{converted}
 use Rattle.floyd_elab_laws.specs.Numbers.{Number, converted_to, is_zero, both_true, one_true}
 use Rattle.floyd_elab_laws.specs.Numbers as numbers
 use Rattle.floyd_elab_laws.specs.CMeaning.{number, joined}
 use Rattle.floyd_elab_laws.specs.Running.{run}
-use Rattle.floyd_elab_laws.specs.Laws.{Holds, is_straight}
+use Rattle.floyd_elab_laws.specs.Laws.{occurs, Holds, is_straight}
 use Rattle.floyd_elab_laws.proofs.KindLemmas.{common_is}
 use Rattle.floyd_elab_laws.proofs.GivesLemmas.{Gives, after, here, Has, nothing, some_then, some_map}
 use Rattle.floyd_elab_laws.proofs.EvaluationLemmas.{into, kept_range, truth_range, into_evals}
@@ -67,7 +68,7 @@ abbrev Set_by : Setting → ℕ → ℕ → IntKind → Option ℤ → ℕ → S
 Set_by W d e k v j a t = Ends W d e t k v (Temp (pulled_name j) (Int k)) (run W.structs W.look a t)
 
 branch_facts : (W : Setting) (straight : Bool) (c : e.CExpr) (a : Number) (b d e : ℕ) (first : List Stmt) (x : Expr) (st : Standing) (k : IntKind) (u v : Option ℤ) (met unmet : Stmt) → (is_truth c ≡ true → IsTruth a) → Facts W straight a b d first x → d + 1 ≤ e → IfSome u (InRange k) → IfSome v (InRange k) →
-    (W.first ≤ d → e ≤ W.last → (t : Temps) → Holds W.scopes W.variables t → Set_by W d e k v (d + 1) met t) → (W.first ≤ d → e ≤ W.last → (t : Temps) → Holds W.scopes W.variables t → Set_by W d e k u (d + 1) unmet t) →
+    (W.first ≤ d → e ≤ W.last → (t : Temps) → Holds W.among W.scopes W.variables t → Set_by W d e k v (d + 1) met t) → (W.first ≤ d → e ≤ W.last → (t : Temps) → Holds W.among W.scopes W.variables t → Set_by W d e k u (d + 1) unmet t) →
     Facts W false (record { kind = k; value = option_and_then (by_zero u v) a.value }) b e (first ++ If (test_of c (record { before = first; expr = x; operand = record { ctype = Int a.kind; standing = st } })) met unmet ∷ []) (Temp (pulled_name (d + 1)) (Int k))
 branch_facts W straight c a b d e first x st k u v met unmet truth_of f l hu hv on_yes on_no =
     let test = test_of c (record { before = first; expr = x; operand = record { ctype = Int a.kind; standing = st } }) in
@@ -92,7 +93,7 @@ drawn_for t p = record p { drawn = p.drawn + 1; temporaries = p.temporaries ++ r
 
 abbrev and_end : Place → e.CExpr → e.CExpr → List ℕ → Translated → Translated → Elaborating Translated
 and_end place left right x a b = do
-  typing (typed.tested place b.operand)
+  typing (typed.check_test place b.operand)
   pure (truth x (a.before ++ both (test_of left a) b.before (test_of right b) x ∷ []))
 
 and_last : {W : Setting} {one two : Bool} {a b : Number} {c d : ℕ} {ta tb : Translated} (place : Place) (left right : e.CExpr) (p : Progress) → Means W one a c d ta → Means W two b (d + 1) p.drawn tb → (is_truth left ≡ true → IsTruth a) → (is_truth right ≡ true → IsTruth b) →
@@ -109,7 +110,7 @@ and_last {W} {one} {two} {a} {b} {c} {d} place left right p (means first x st f)
 
 abbrev or_end : Place → e.CExpr → e.CExpr → List ℕ → Translated → Translated → Elaborating Translated
 or_end place left right x a b = do
-  typing (typed.tested place b.operand)
+  typing (typed.check_test place b.operand)
   pure (truth x (a.before ++ one_of (test_of left a) b.before (test_of right b) x ∷ []))
 
 or_last : {W : Setting} {one two : Bool} {a b : Number} {c d : ℕ} {ta tb : Translated} (place : Place) (left right : e.CExpr) (p : Progress) → Means W one a c d ta → Means W two b (d + 1) p.drawn tb → (is_truth left ≡ true → IsTruth a) → (is_truth right ≡ true → IsTruth b) →
@@ -126,16 +127,16 @@ or_last {W} {one = straight} {two} {a} {b} {c} {d} place left right p (means fir
 
 abbrev and_rest : Scopes → Place → e.CExpr → e.CExpr → Translated → Elaborating Translated
 and_rest scopes place left right a = do
-  typing (typed.tested place a.operand)
+  typing (typed.check_test place a.operand)
   x ← pull int_type
-  b ← translated scopes right >>= read
+  b ← expression scopes right >>= read
   and_end place left right x a b
 
 abbrev or_rest : Scopes → Place → e.CExpr → e.CExpr → Translated → Elaborating Translated
 or_rest scopes place left right a = do
-  typing (typed.tested place a.operand)
+  typing (typed.check_test place a.operand)
   x ← pull int_type
-  b ← translated scopes right >>= read
+  b ← expression scopes right >>= read
   or_end place left right x a b
 
 -- ---- `?:`, behind its test
@@ -165,65 +166,85 @@ chosen_third {W} {one} {two} {three} {c} {a} {b} {d} {up} {f} place test p (mean
 
 -- a number, and whether it is a truth where the expression is a test as it is written
 abbrev Known : Setting → e.CExpr → Number → Type 0
-Known W c n = Meant W (is_straight c) (translated W.scopes c) n × (is_truth c ≡ true → IsTruth n)
+Known W c n = Meant W (is_straight c) (expression W.scopes c) n × (is_truth c ≡ true → IsTruth n)
 
-known : (W : Setting) (c : e.CExpr) → Has (number W.structs W.scopes W.variables c) (Meant W (is_straight c) (translated W.scopes c)) → Has (number W.structs W.scopes W.variables c) (Known W c)
+known : (W : Setting) (c : e.CExpr) → Has (number W.structs W.scopes W.variables c) (Meant W (is_straight c) (expression W.scopes c)) → Has (number W.structs W.scopes W.variables c) (Known W c)
 known W c h = by (number W.structs W.scopes W.variables c) h (truths W.structs W.scopes W.variables c)
   where
-    by : (o : Option Number) → Has o (Meant W (is_straight c) (translated W.scopes c)) → (is_truth c ≡ true → Has o IsTruth) → Has o (Known W c)
+    by : (o : Option Number) → Has o (Meant W (is_straight c) (expression W.scopes c)) → (is_truth c ≡ true → Has o IsTruth) → Has o (Known W c)
     by None h f = nothing
     by (Some n) h f = record { holds = (h.holds, λ q. (f q).holds) }
 
 and_gives : (W : Setting) (straight : Bool) (place : Place) (left right : e.CExpr) (a b : Number) (c : ℕ) (s : Progress) (ta : Translated) → Means W straight a c s.drawn ta → (is_truth left ≡ true → IsTruth a) → Known W right b →
     Gives (and_rest W.scopes place left right ta s) (λ r. Means W false (both_true a b) c r.1.drawn r.0)
 and_gives W straight place left right a b c s ta (means first x st f) i g =
-    after ((translated W.scopes right >>= read) (drawn_for int_type s)) (value_meant W (is_straight right) b (translated W.scopes right) g.0 (drawn_for int_type s)) (λ tb u h. and_last place left right u (means first x st f) h i g.1)
+    after ((expression W.scopes right >>= read) (drawn_for int_type s)) (value_meant W (is_straight right) b (expression W.scopes right) g.0 (drawn_for int_type s)) (λ tb u h. and_last place left right u (means first x st f) h i g.1)
 
 or_gives : (W : Setting) (straight : Bool) (place : Place) (left right : e.CExpr) (a b : Number) (c : ℕ) (s : Progress) (ta : Translated) → Means W straight a c s.drawn ta → (is_truth left ≡ true → IsTruth a) → Known W right b →
     Gives (or_rest W.scopes place left right ta s) (λ r. Means W false (one_true a b) c r.1.drawn r.0)
 or_gives W straight place left right a b c s ta (means first x st f) i g =
-    after ((translated W.scopes right >>= read) (drawn_for int_type s)) (value_meant W (is_straight right) b (translated W.scopes right) g.0 (drawn_for int_type s)) (λ tb u h. or_last place left right u (means first x st f) h i g.1)
+    after ((expression W.scopes right >>= read) (drawn_for int_type s)) (value_meant W (is_straight right) b (expression W.scopes right) g.0 (drawn_for int_type s)) (λ tb u h. or_last place left right u (means first x st f) h i g.1)
 
 abbrev chosen_rest : Scopes → Place → e.CExpr → e.CExpr → e.CExpr → Translated → Elaborating Translated
 chosen_rest scopes place test met unmet c = do
-  typing (typed.tested place c.operand)
+  typing (typed.check_test place c.operand)
   k ← draw
-  a ← translated scopes met >>= read
-  b ← translated scopes unmet >>= read
+  a ← expression scopes met >>= read
+  b ← expression scopes unmet >>= read
   chosen_last place test k c a b
 
-chosen_gives : (W : Setting) (straight : Bool) (place : Place) (test met unmet : e.CExpr) (c a b : Number) (d : ℕ) (s : Progress) (tc : Translated) → Means W straight c d s.drawn tc → (is_truth test ≡ true → IsTruth c) → Meant W (is_straight met) (translated W.scopes met) a → Meant W (is_straight unmet) (translated W.scopes unmet) b →
+chosen_gives : (W : Setting) (straight : Bool) (place : Place) (test met unmet : e.CExpr) (c a b : Number) (d : ℕ) (s : Progress) (tc : Translated) → Means W straight c d s.drawn tc → (is_truth test ≡ true → IsTruth c) → Meant W (is_straight met) (expression W.scopes met) a → Meant W (is_straight unmet) (expression W.scopes unmet) b →
     Gives (chosen_rest W.scopes place test met unmet tc s) (λ r. Means W false (numbers.chosen c a b) d r.1.drawn r.0)
 chosen_gives W straight place test met unmet c a b d s tc (means first x st f) i ya na =
-    after ((translated W.scopes met >>= read) (record s { drawn = s.drawn + 1 })) (value_meant W (is_straight met) a (translated W.scopes met) ya (record s { drawn = s.drawn + 1 })) (λ ta u h.
-    after ((translated W.scopes unmet >>= read) u) (value_meant W (is_straight unmet) b (translated W.scopes unmet) na u) (λ tb v g. chosen_third place test v (means first x st f) h g i))
+    after ((expression W.scopes met >>= read) (record s { drawn = s.drawn + 1 })) (value_meant W (is_straight met) a (expression W.scopes met) ya (record s { drawn = s.drawn + 1 })) (λ ta u h.
+    after ((expression W.scopes unmet >>= read) u) (value_meant W (is_straight unmet) b (expression W.scopes unmet) na u) (λ tb v g. chosen_third place test v (means first x st f) h g i))
 
-pub meant : (W : Setting) (c : e.CExpr) → Has (number W.structs W.scopes W.variables c) (Meant W (is_straight c) (translated W.scopes c))
-meant W (e.Name i) = named_meant W true i (meaning_of W.scopes i.name) refl
-meant W (e.Literal l) = literal_meant W true l
-meant W (e.Parenthesised' p (e.more_of-CExpr inner e.end_of-CExpr)) = meant W inner
-meant W (e.Prefixed' prefixes p (e.more_of-CExpr operand e.end_of-CExpr)) = prefixed_meant W (is_straight operand) prefixes (translated W.scopes operand) (number W.structs W.scopes W.variables operand) (meant W operand)
-meant W (e.SizeOf place n) = size_meant W true place n
-meant W (e.PostfixStep' p operand op place) = nothing
-meant W (e.Index' p array place q index) = nothing
-meant W (e.Call' p function place shape arguments) = nothing
-meant W (e.Member' p operand op place field) = nothing
-meant W (e.Binary' p (e.more_of-CExpr left e.end_of-CExpr) (binary.Int op) place q (e.more_of-CExpr right e.end_of-CExpr)) =
-    some_then (λ a. option_map (joined (binary.Int op) a) (number W.structs W.scopes W.variables right)) (number W.structs W.scopes W.variables left) (meant W left) (λ a f.
-    some_map (joined (binary.Int op) a) (number W.structs W.scopes W.variables right) (meant W right) (λ b g. λ p.
-    after ((translated W.scopes left >>= read) p) (value_meant W (is_straight left) a (translated W.scopes left) f p) (λ ta s h.
-    after ((translated W.scopes right >>= read) s) (value_meant W (is_straight right) b (translated W.scopes right) g s) (λ tb u i. binary_meant op place u h i))))
-meant W (e.Binary' p (e.more_of-CExpr left e.end_of-CExpr) binary.And place q (e.more_of-CExpr right e.end_of-CExpr)) =
-    some_then (λ a. option_map (joined binary.And a) (number W.structs W.scopes W.variables right)) (number W.structs W.scopes W.variables left) (known W left (meant W left)) (λ a f.
-    some_map (joined binary.And a) (number W.structs W.scopes W.variables right) (known W right (meant W right)) (λ b g. λ p.
-    after ((translated W.scopes left >>= read) p) (value_meant W (is_straight left) a (translated W.scopes left) f.0 p) (λ ta s h. and_gives W (is_straight left) place left right a b p.drawn s ta h f.1 g)))
-meant W (e.Binary' p (e.more_of-CExpr left e.end_of-CExpr) binary.Or place q (e.more_of-CExpr right e.end_of-CExpr)) =
-    some_then (λ a. option_map (joined binary.Or a) (number W.structs W.scopes W.variables right)) (number W.structs W.scopes W.variables left) (known W left (meant W left)) (λ a f.
-    some_map (joined binary.Or a) (number W.structs W.scopes W.variables right) (known W right (meant W right)) (λ b g. λ p.
-    after ((translated W.scopes left >>= read) p) (value_meant W (is_straight left) a (translated W.scopes left) f.0 p) (λ ta s h. or_gives W (is_straight left) place left right a b p.drawn s ta h f.1 g)))
-meant W (e.Conditional' p (e.more_of-CExpr test e.end_of-CExpr) place q (e.more_of-CExpr met e.end_of-CExpr) r (e.more_of-CExpr unmet e.end_of-CExpr)) =
-    some_then (λ c. option_and_then (λ a. option_map (numbers.chosen c a) (number W.structs W.scopes W.variables unmet)) (number W.structs W.scopes W.variables met)) (number W.structs W.scopes W.variables test) (known W test (meant W test)) (λ c f.
-    some_then (λ a. option_map (numbers.chosen c a) (number W.structs W.scopes W.variables unmet)) (number W.structs W.scopes W.variables met) (meant W met) (λ a g.
-    some_map (numbers.chosen c a) (number W.structs W.scopes W.variables unmet) (meant W unmet) (λ b h. λ p.
-    after ((translated W.scopes test >>= read) p) (value_meant W (is_straight test) c (translated W.scopes test) f.0 p) (λ tc s i. chosen_gives W (is_straight test) place test met unmet c a b p.drawn s tc i f.1 g h))))
-meant W (e.Assign' p target op place q value) = nothing
+-- each name that stands in the expression is among those that hold numbers
+abbrev pub Counted : Setting → e.CExpr → Type 0
+Counted W c = (x : List ℕ) → occurs x c ≡ true → W.among x ≡ true
+
+self_equal : (x : List ℕ) → bytes_eq x x ≡ true
+self_equal x = (bytes_eq-Decides x x).1 refl
+
+first_holds : (a b : Bool) → a ≡ true → (a || b) ≡ true
+first_holds a b h = ap (λ t. t || b) h
+
+second_holds : (a b : Bool) → b ≡ true → (a || b) ≡ true
+second_holds true b h = refl
+second_holds false b h = h
+
+in_left : (W : Setting) (left right : e.CExpr) → ((x : List ℕ) → (occurs x left || occurs x right) ≡ true → W.among x ≡ true) → Counted W left
+in_left W left right w = λ x h. w x (first_holds (occurs x left) (occurs x right) h)
+
+in_right : (W : Setting) (left right : e.CExpr) → ((x : List ℕ) → (occurs x left || occurs x right) ≡ true → W.among x ≡ true) → Counted W right
+in_right W left right w = λ x h. w x (second_holds (occurs x left) (occurs x right) h)
+
+pub meant : (W : Setting) (c : e.CExpr) → Counted W c → Has (number W.structs W.scopes W.variables c) (Meant W (is_straight c) (expression W.scopes c))
+meant W (e.Name i) w = named_meant W true i (meaning_of W.scopes i.name) (w i.name (self_equal i.name)) refl
+meant W (e.Literal l) w = literal_meant W true l
+meant W (e.Parenthesised' p (e.more_of-CExpr inner e.end_of-CExpr)) w = meant W inner w
+meant W (e.Prefixed' prefixes p (e.more_of-CExpr operand e.end_of-CExpr)) w = prefixed_meant W (is_straight operand) prefixes (expression W.scopes operand) (number W.structs W.scopes W.variables operand) (meant W operand w)
+meant W (e.SizeOf place n) w = size_meant W true place n
+meant W (e.PostfixStep' p operand op place) w = nothing
+meant W (e.Index' p array place q index) w = nothing
+meant W (e.Call' p function place shape arguments) w = nothing
+meant W (e.Member' p operand op place field) w = nothing
+meant W (e.Binary' p (e.more_of-CExpr left e.end_of-CExpr) (binary.Int op) place q (e.more_of-CExpr right e.end_of-CExpr)) w =
+    some_then (λ a. option_map (joined (binary.Int op) a) (number W.structs W.scopes W.variables right)) (number W.structs W.scopes W.variables left) (meant W left (in_left W left right w)) (λ a f.
+    some_map (joined (binary.Int op) a) (number W.structs W.scopes W.variables right) (meant W right (in_right W left right w)) (λ b g. λ p.
+    after ((expression W.scopes left >>= read) p) (value_meant W (is_straight left) a (expression W.scopes left) f p) (λ ta s h.
+    after ((expression W.scopes right >>= read) s) (value_meant W (is_straight right) b (expression W.scopes right) g s) (λ tb u i. binary_meant op place u h i))))
+meant W (e.Binary' p (e.more_of-CExpr left e.end_of-CExpr) binary.And place q (e.more_of-CExpr right e.end_of-CExpr)) w =
+    some_then (λ a. option_map (joined binary.And a) (number W.structs W.scopes W.variables right)) (number W.structs W.scopes W.variables left) (known W left (meant W left (in_left W left right w))) (λ a f.
+    some_map (joined binary.And a) (number W.structs W.scopes W.variables right) (known W right (meant W right (in_right W left right w))) (λ b g. λ p.
+    after ((expression W.scopes left >>= read) p) (value_meant W (is_straight left) a (expression W.scopes left) f.0 p) (λ ta s h. and_gives W (is_straight left) place left right a b p.drawn s ta h f.1 g)))
+meant W (e.Binary' p (e.more_of-CExpr left e.end_of-CExpr) binary.Or place q (e.more_of-CExpr right e.end_of-CExpr)) w =
+    some_then (λ a. option_map (joined binary.Or a) (number W.structs W.scopes W.variables right)) (number W.structs W.scopes W.variables left) (known W left (meant W left (in_left W left right w))) (λ a f.
+    some_map (joined binary.Or a) (number W.structs W.scopes W.variables right) (known W right (meant W right (in_right W left right w))) (λ b g. λ p.
+    after ((expression W.scopes left >>= read) p) (value_meant W (is_straight left) a (expression W.scopes left) f.0 p) (λ ta s h. or_gives W (is_straight left) place left right a b p.drawn s ta h f.1 g)))
+meant W (e.Conditional' p (e.more_of-CExpr test e.end_of-CExpr) place q (e.more_of-CExpr met e.end_of-CExpr) r (e.more_of-CExpr unmet e.end_of-CExpr)) w =
+    some_then (λ c. option_and_then (λ a. option_map (numbers.chosen c a) (number W.structs W.scopes W.variables unmet)) (number W.structs W.scopes W.variables met)) (number W.structs W.scopes W.variables test) (known W test (meant W test (λ x h. w x (first_holds (occurs x test) (occurs x met || occurs x unmet) h)))) (λ c f.
+    some_then (λ a. option_map (numbers.chosen c a) (number W.structs W.scopes W.variables unmet)) (number W.structs W.scopes W.variables met) (meant W met (λ x h. w x (second_holds (occurs x test) (occurs x met || occurs x unmet) (first_holds (occurs x met) (occurs x unmet) h)))) (λ a g.
+    some_map (numbers.chosen c a) (number W.structs W.scopes W.variables unmet) (meant W unmet (λ x h. w x (second_holds (occurs x test) (occurs x met || occurs x unmet) (second_holds (occurs x met) (occurs x unmet) h)))) (λ b h. λ p.
+    after ((expression W.scopes test >>= read) p) (value_meant W (is_straight test) c (expression W.scopes test) f.0 p) (λ tc s i. chosen_gives W (is_straight test) place test met unmet c a b p.drawn s tc i f.1 g h))))
+meant W (e.Assign' p target op place q value) w = nothing

@@ -13,7 +13,7 @@ use Rattle.floyd_elab_names.specs.Scopes.{Scopes, meaning_of}
 use Rattle.floyd_clight.specs.declared.syntax.Expr.{Expr}
 use Rattle.floyd_clight.specs.declared.syntax.Stmt.{Stmt}
 use Rattle.floyd_clight.specs.Types.{type_of}
-use Rattle.floyd_clight.specs.Evaluation.{Ident, Temps, with_temp, Look, eval_by}
+use Rattle.floyd_clight_machine.specs.Evaluation.{Ident, Temps, with_temp, Look, eval_by}
 use Rattle.floyd_elab_expressions.specs.Clight.{is_memory, pulled_name}
 use Rattle.floyd_elab_laws.specs.Numbers.{Number}
 use Rattle.floyd_elab_laws.specs.CMeaning.{is_kept_apart}
@@ -22,16 +22,17 @@ use Rattle.floyd_elab_laws.specs.Laws.{value_as, Holds}
 use Rattle.floyd_elab_laws.proofs.EvaluationLemmas.{Evals}
 use Rattle.floyd_elab_laws.proofs.RunLemmas.{set_other, run_append}
 
--- Where an expression is translated: the program's structs, what the names in sight mean and hold, and which numbers are
--- drawn for it, those behind `first` up to `last`.
+-- Where an expression is translated: the program's structs, what the names in sight mean, what those `among` them hold,
+-- and which numbers are drawn for it, those behind `first` up to `last`.
 pub record Setting : Type 0 where
   pub structs : Structs
   pub look : Look
   pub scopes : Scopes
+  pub among : List ℕ → Bool
   pub variables : List ℕ → ℤ
   pub first : ℕ
   pub last : ℕ
-  pub ranges : (x called : List ℕ) (k : IntKind) (storage : Storage) → meaning_of scopes x ≡ Some (m.Variable called (Int k) storage) → is_kept_apart storage ≡ true → InRange k (variables x)
+  pub ranges : (x called : List ℕ) (k : IntKind) (storage : Storage) → among x ≡ true → meaning_of scopes x ≡ Some (m.Variable called (Int k) storage) → is_kept_apart storage ≡ true → InRange k (variables x)
   pub apart : (x called : List ℕ) (k : IntKind) (storage : Storage) → meaning_of scopes x ≡ Some (m.Variable called (Int k) storage) → is_kept_apart storage ≡ true → (j : ℕ) → first < j → j ≤ last → called ≡ pulled_name j → ⊥
   pub distinct : (j k : ℕ) → first < j → j ≤ last → first < k → k ≤ last → pulled_name j ≡ pulled_name k → j ≡ k
 
@@ -48,9 +49,9 @@ kept_on l a b = record { at = λ x h. b.at x (λ k i j q. h k (omega (arith, l, 
 pub kept_set : (W : Setting) (d j : ℕ) (v : Value) (s : Temps) → d < j → j ≤ W.last → Kept W d s (with_temp (pulled_name j) v s)
 kept_set W d j v s l b = record { at = λ x h. set_other (pulled_name j) x v s (λ e. h j l b e) }
 
-pub holds_kept : {W : Setting} {d : ℕ} {s u : Temps} → W.first ≤ d → Kept W d s u → Holds W.scopes W.variables s → Holds W.scopes W.variables u
-holds_kept {W} {d} {s} {u} l a h = λ x called k storage e c.
-    let held = h x called k storage e c in
+pub holds_kept : {W : Setting} {d : ℕ} {s u : Temps} → W.first ≤ d → Kept W d s u → Holds W.among W.scopes W.variables s → Holds W.among W.scopes W.variables u
+holds_kept {W} {d} {s} {u} l a h = λ x called k storage w e c.
+    let held = h x called k storage w e c in
     record { in_range = held.in_range; value = a.at called (λ j i b q. W.apart x called k storage e c j (omega (arith, l, i)) b q) ∙ held.value }
 
 -- Where a run of the statements before an expression ends, from s on: it is stuck, and C gives no value; or the expression
@@ -82,14 +83,14 @@ pub record Facts (W : Setting) (straight : Bool) (n : Number) (d e : ℕ) (befor
   pub range : IfSome n.value (InRange n.kind)
   pub order : d ≤ e
   pub plain : straight ≡ true → (before ≡ []) × (e ≡ d)
-  pub runs : W.first ≤ d → e ≤ W.last → (s : Temps) → Holds W.scopes W.variables s → Ends W d e s n.kind n.value x (run_all W.structs W.look before s)
+  pub runs : W.first ≤ d → e ≤ W.last → (s : Temps) → Holds W.among W.scopes W.variables s → Ends W d e s n.kind n.value x (run_all W.structs W.look before s)
 
 pub evals : (W : Setting) (straight : Bool) (n : Number) (d e : ℕ) (before : List Stmt) (x : Expr) → Facts W straight n d e before x → (w : Temps) → eval_by W.structs W.look w x ≡ option_map (value_as n.kind) n.value → Evals W.structs W.look w x n.kind n.value
 evals W straight n d e before x f w h = record { ctype = f.ctype; range = f.range; value = h }
 
 -- an expression without statements before it
 pub alone : (W : Setting) (straight : Bool) (n : Number) (d : ℕ) (x : Expr) → is_memory x ≡ false → type_of x ≡ Int n.kind → IfSome n.value (InRange n.kind) →
-    (W.first ≤ d → (s : Temps) → Holds W.scopes W.variables s → eval_by W.structs W.look s x ≡ option_map (value_as n.kind) n.value) → Facts W straight n d d [] x
+    (W.first ≤ d → (s : Temps) → Holds W.among W.scopes W.variables s → eval_by W.structs W.look s x ≡ option_map (value_as n.kind) n.value) → Facts W straight n d d [] x
 alone W straight n d x m c r h =
     record {
       memory = m;
@@ -101,9 +102,9 @@ alone W straight n d x m c r h =
     }
 
 -- an operator on one operand
-pub changed : (W : Setting) (straight : Bool) (n o : Number) (d e : ℕ) (before : List Stmt) (x y : Expr) → Facts W straight n d e before x → is_memory y ≡ false → type_of y ≡ Int o.kind → IfSome o.value (InRange o.kind) → (n.value ≡ None → o.value ≡ None) →
+pub modify : (W : Setting) (straight : Bool) (n o : Number) (d e : ℕ) (before : List Stmt) (x y : Expr) → Facts W straight n d e before x → is_memory y ≡ false → type_of y ≡ Int o.kind → IfSome o.value (InRange o.kind) → (n.value ≡ None → o.value ≡ None) →
     ((w : Temps) → Evals W.structs W.look w x n.kind n.value → eval_by W.structs W.look w y ≡ option_map (value_as o.kind) o.value) → Facts W straight o d e before y
-changed W straight n o d e before x y f m c r i g =
+modify W straight n o d e before x y f m c r i g =
     record {
       memory = m;
       ctype = c;

@@ -2,13 +2,13 @@
 use Rattle.std.proofs.Common.{Option, Some, None, Result, Ok, Err}
 use Rattle.std.specs.Prelude.{IfOk, IfSome, option_map, option_and_then}
 use Rattle.floyd_text.specs.declared.refusal.Refusal.{Refusal}
-use Rattle.floyd_elab_names.specs.Doing.{Doing, followed}
+use Rattle.floyd_elab_names.specs.Refusing.{Refusing, and_then}
 
 -- what was found, if it was not refused
 pub record Gives {X : Type 0} (r : Result X Refusal) (Q : X → Type 0) : Type 0 where
   pub holds : IfOk r Q
 
-pub after : {S A B : Type 0} {Q : B × S → Type 0} {P : A × S → Type 0} {next : A → Doing S B} (r : Result (A × S) Refusal) → Gives r P → ((x : A) (s : S) → P (x, s) → Gives (next x s) Q) → Gives (followed r next) Q
+pub after : {S A B : Type 0} {Q : B × S → Type 0} {P : A × S → Type 0} {next : A → Refusing S B} (r : Result (A × S) Refusal) → Gives r P → ((x : A) (s : S) → P (x, s) → Gives (next x s) Q) → Gives (and_then r next) Q
 after (Ok x) h f = f x.0 x.1 h.holds
 after (Err e) h f = record { holds = tt }
 
@@ -23,7 +23,7 @@ whatever (Ok x) = record { holds = tt }
 whatever (Err e) = record { holds = tt }
 
 -- whatever the first step finds
-pub passing : {S A B : Type 0} {Q : B × S → Type 0} {next : A → Doing S B} (r : Result (A × S) Refusal) → ((x : A) (s : S) → Gives (next x s) Q) → Gives (followed r next) Q
+pub passing : {S A B : Type 0} {Q : B × S → Type 0} {next : A → Refusing S B} (r : Result (A × S) Refusal) → ((x : A) (s : S) → Gives (next x s) Q) → Gives (and_then r next) Q
 passing r f = after r (whatever r) (λ x s _. f x s)
 
 -- what follows from what was found

@@ -13,8 +13,8 @@ use Rattle.floyd_ctypes.specs.Has.{has_kind, signed_within}
 use Rattle.floyd_elab_names.specs.declared.meaning.Meaning.{Meaning}
 use Rattle.floyd_elab_names.specs.declared.meaning.Meaning.TheVariants as m
 use Rattle.floyd_elab_names.specs.Scopes.{Scopes, meaning_of}
-use Rattle.floyd_clight.specs.Integers.{read_as}
-use Rattle.floyd_clight.specs.Evaluation.{Temps}
+use Rattle.floyd_clight_machine.specs.Integers.{read_as}
+use Rattle.floyd_clight_machine.specs.Evaluation.{Temps}
 use Rattle.floyd_elab_laws.specs.Laws.{HeldIn, Holds, AreAllowed}
 
 -- the whole number of a value of a kind
@@ -103,8 +103,8 @@ abbrev in_variable : Temps → Option Meaning → ℤ
 in_variable temps (Some (m.Variable called (Int k) storage)) = number_in k (temps called)
 in_variable temps meaning = pos 0
 
-pub allowed_hold : (scopes : Scopes) (temps : Temps) → AreAllowed scopes temps → (variables : List ℕ → ℤ) × Holds scopes variables temps
-allowed_hold scopes temps h = (
+pub allowed_hold : (among : List ℕ → Bool) (scopes : Scopes) (temps : Temps) → AreAllowed among scopes temps → (variables : List ℕ → ℤ) × Holds among scopes variables temps
+allowed_hold among scopes temps h = (
   (λ x. in_variable temps (meaning_of scopes x)),
-  λ x called k storage e a. subst (HeldIn (temps called) k) (sym (ap (in_variable temps) e)) (held_in k (temps called) (h x called k storage e a)),
+  λ x called k storage w e a. subst (HeldIn (temps called) k) (sym (ap (in_variable temps) e)) (held_in k (temps called) (h x called k storage w e a)),
 )

@@ -9,8 +9,8 @@ use Rattle.floyd_int.specs.Kind.{width, is_signed, InRange, repr_of, value_of}
 use Rattle.floyd_int.specs.Operation.{is_in_range}
 use Rattle.floyd_int.proofs.KindLaws.{InRange-value, repr-below, value-repr}
 use Rattle.floyd_int.proofs.OperationLaws.{InRange-true}
-use Rattle.floyd_elab_names.specs.Types.{promoted, usual, same_kind, same_sign}
-use Rattle.floyd_clight.specs.Integers.{read_as}
+use Rattle.floyd_elab_names.specs.Types.{promote, usual, same_kind, same_sign}
+use Rattle.floyd_clight_machine.specs.Integers.{read_as}
 use Rattle.floyd_elab_laws.specs.Conversions.{converted, promotion, common_kind}
 
 -- ---- conversions
@@ -30,7 +30,7 @@ converted_range k z = subst (InRange k) (sym (converted_is k z)) (InRange-value 
 
 -- ---- kinds of operands
 
-pub promotion_is : (k : IntKind) → promotion k ≡ promoted k
+pub promotion_is : (k : IntKind) → promotion k ≡ promote k
 promotion_is I8 = refl
 promotion_is U8 = refl
 promotion_is I16 = refl
@@ -107,7 +107,7 @@ common_is U64 I64 = refl
 common_is U64 U64 = refl
 
 -- each value of a kind is one of its promoted kind, and of the kind with which it is read
-pub promotion_range : (k : IntKind) (z : ℤ) → InRange k z → InRange (promoted k) z
+pub promotion_range : (k : IntKind) (z : ℤ) → InRange k z → InRange (promote k) z
 promotion_range I8 z h = record { from_least = omega (arith, ints, h.from_least); to_greatest = omega (arith, ints, h.to_greatest) }
 promotion_range U8 z h = record { from_least = omega (arith, ints, h.from_least); to_greatest = omega (arith, ints, h.to_greatest) }
 promotion_range I16 z h = record { from_least = omega (arith, ints, h.from_least); to_greatest = omega (arith, ints, h.to_greatest) }

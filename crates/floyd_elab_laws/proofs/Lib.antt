@@ -15,3 +15,5 @@ pub mod MeaningLaws
 pub mod StepLemmas
 pub mod ReadLemmas
 pub mod EffectLemmas
+pub mod PlaceLemmas
+pub mod LoadLemmas

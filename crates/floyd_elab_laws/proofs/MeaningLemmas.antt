@@ -30,11 +30,11 @@ use Rattle.floyd_elab_names.specs.declared.meaning.Storage.TheVariants as kept
 use Rattle.floyd_ctyping.specs.declared.operand.Standing.{Standing}
 use Rattle.floyd_ctyping.specs.declared.operand.Standing.TheVariants as standing
 use Rattle.floyd_elab_names.specs.declared.tags.Tags.{Tags}
-use Rattle.floyd_elab_names.specs.Doing.{◌>>=◌, pure, unless}
+use Rattle.floyd_elab_names.specs.Refusing.{◌>>=◌, pure, unless}
 use Rattle.floyd_elab_names.specs.Typing.{Typing}
 use Rattle.floyd_elab_names.specs.Refusals.{ill_typed}
 use Rattle.floyd_elab_names.specs.Scopes.{Scopes, meaning_of}
-use Rattle.floyd_elab_names.specs.Types.{promoted, usual, size_type, has_size, kind_of}
+use Rattle.floyd_elab_names.specs.Types.{promote, usual, size_type, has_size, kind_of}
 use Rattle.floyd_ctyping.specs.Operators as o
 use Rattle.floyd_elab_names.specs.Declarators.{parenthesis}
 use Rattle.floyd_elab_names.specs.Declarators as names
@@ -42,8 +42,8 @@ use Rattle.floyd_ctyping.specs.Expressions as typed
 use Rattle.floyd_clight.specs.declared.syntax.Expr.{Expr, Const, Temp, SizeOf}
 use Rattle.floyd_clight.specs.declared.syntax.Stmt.{Stmt}
 use Rattle.floyd_clight.specs.declared.syntax.UnaryOp.TheVariants as unary
-use Rattle.floyd_clight.specs.Integers as i
-use Rattle.floyd_clight.specs.Evaluation.{Temps}
+use Rattle.floyd_clight_machine.specs.Integers as i
+use Rattle.floyd_clight_machine.specs.Evaluation.{Temps}
 use Rattle.floyd_elab_expressions.specs.Clight.{Translated, bits_of, cast_of, unary_of, binary_of}
 use Rattle.floyd_elab_expressions.specs.declared.progress.Progress.{Progress}
 use Rattle.floyd_elab_expressions.specs.Progress.{Elaborating, typing, with_tags}
@@ -60,7 +60,7 @@ use Rattle.floyd_elab_laws.proofs.GivesLemmas.{Gives, after, here, refused, pass
 use Rattle.floyd_elab_laws.proofs.TypeNameLemmas.{type_is_named}
 use Rattle.floyd_elab_laws.proofs.ValueLemmas.{promoted_wide, usual_wide}
 use Rattle.floyd_elab_laws.proofs.EvaluationLemmas.{into, not_memory, into_type, kept_same, kept_range, promoted_range, both_none, cast_evals, into_evals, minus_evals, complement_evals, opposite_evals, arithmetic_evals, left_evals, right_evals, minus_range, complemented_range, opposite_range, arithmetic_range, left_range, right_range}
-use Rattle.floyd_elab_laws.proofs.FactLemmas.{Setting, Kept, Facts, evals, alone, changed}
+use Rattle.floyd_elab_laws.proofs.FactLemmas.{Setting, Kept, Facts, evals, alone, modify}
 use Rattle.floyd_elab_laws.proofs.FactLemmas as fact
 
 -- ---- what is translated, as a number of C
@@ -75,7 +75,7 @@ Meant W straight t n = (p : Progress) → Gives (t p) (λ r. Means W straight n 
 read_same : {W : Setting} {straight : Bool} {n : Number} {d e : ℕ} {a : Translated} → Means W straight n d e a → (p : Progress) → elab.read a p ≡ Ok (a, p)
 read_same {n = n} (means before x st f) p =
     let a : Translated = record { before = before; expr = x; operand = record { ctype = Int n.kind; standing = st } } in
-    ap (λ t. (if t && true then elab.pulled a else pure a) p) f.memory
+    ap (λ t. (if t && true then elab.pull_read a else pure a) p) f.memory
 
 pub read_meant : {W : Setting} {straight : Bool} {n : Number} {d : ℕ} {a : Translated} (p : Progress) → Means W straight n d p.drawn a → Gives (elab.read a p) (λ r. Means W straight n d r.1.drawn r.0)
 read_meant {W} {straight} {n} {d} p h = subst (λ r. Gives r (λ r. Means W straight n d r.1.drawn r.0)) (sym (read_same h p)) (here h)
@@ -94,21 +94,21 @@ typing_gives P t p h = with_tags_gives P p (t p.tags) h
 -- ---- names
 
 temporary : (W : Setting) (straight : Bool) (x called : List ℕ) (k : IntKind) (st : Standing) (p : Progress) →
-    InRange k (W.variables x) → (W.first ≤ p.drawn → (s : Temps) → Holds W.scopes W.variables s → s called ≡ value_as k (W.variables x)) →
+    InRange k (W.variables x) → (W.first ≤ p.drawn → (s : Temps) → Holds W.among W.scopes W.variables s → s called ≡ value_as k (W.variables x)) →
     Means W straight (variable (W.variables x) k) p.drawn p.drawn (record { before = []; expr = Temp called (Int k); operand = record { ctype = Int k; standing = st } })
 temporary W straight x called k st p r h = means [] (Temp called (Int k)) st (alone W straight (variable (W.variables x) k) p.drawn (Temp called (Int k)) refl refl r (λ l s held. ap Some (h l s held)))
 
-pub named_meant : (W : Setting) (straight : Bool) (i : Identifier) (meaning : Option Meaning) → meaning_of W.scopes i.name ≡ meaning → Has (option_map (variable (W.variables i.name)) (variable_kind meaning)) (Meant W straight (elab.named i meaning))
-named_meant W straight i (Some (m.Variable called (Int k) kept.Temporary)) q =
-    record { holds = λ p. here (temporary W straight i.name called k standing.Object p (W.ranges i.name called k kept.Temporary q refl) (λ l s held. (held i.name called k kept.Temporary q refl).value)) }
-named_meant W straight i (Some (m.Variable called (Int k) kept.Parameter)) q =
-    record { holds = λ p. here (temporary W straight i.name called k standing.Parameter p (W.ranges i.name called k kept.Parameter q refl) (λ l s held. (held i.name called k kept.Parameter q refl).value)) }
-named_meant W straight i (Some (m.Variable called (Int k) kept.Global)) q = nothing
-named_meant W straight i (Some (m.Variable called (Int k) kept.Block)) q = nothing
-named_meant W straight i (Some (m.Variable called t storage)) q = nothing
-named_meant W straight i (Some (m.Type t constant)) q = nothing
-named_meant W straight i (Some (m.Function t)) q = nothing
-named_meant W straight i None q = nothing
+pub named_meant : (W : Setting) (straight : Bool) (i : Identifier) (meaning : Option Meaning) → W.among i.name ≡ true → meaning_of W.scopes i.name ≡ meaning → Has (option_map (variable (W.variables i.name)) (variable_kind meaning)) (Meant W straight (elab.identifier i meaning))
+named_meant W straight i (Some (m.Variable called (Int k) kept.Temporary)) w q =
+    record { holds = λ p. here (temporary W straight i.name called k standing.Object p (W.ranges i.name called k kept.Temporary w q refl) (λ l s held. (held i.name called k kept.Temporary w q refl).value)) }
+named_meant W straight i (Some (m.Variable called (Int k) kept.Parameter)) w q =
+    record { holds = λ p. here (temporary W straight i.name called k standing.Parameter p (W.ranges i.name called k kept.Parameter w q refl) (λ l s held. (held i.name called k kept.Parameter w q refl).value)) }
+named_meant W straight i (Some (m.Variable called (Int k) kept.Global)) w q = nothing
+named_meant W straight i (Some (m.Variable called (Int k) kept.Block)) w q = nothing
+named_meant W straight i (Some (m.Variable called t storage)) w q = nothing
+named_meant W straight i (Some (m.Type t constant)) w q = nothing
+named_meant W straight i (Some (m.Function t)) w q = nothing
+named_meant W straight i None w q = nothing
 
 -- ---- constants and sizes
 
@@ -154,25 +154,25 @@ same_some : (t u : CType) (o : Option CType) → o ≡ Some t → o ≡ Some u �
 unfolding from_some
 same_some t u o h g = ap (from_some t) (sym h ∙ g)
 
-pub size_meant : (W : Setting) (straight : Bool) (place : Place) (n : TypeName) → Has (option_and_then size_number (option_and_then (size W.structs) (type_named W.scopes n))) (Meant W straight (elab.translated W.scopes (e.SizeOf place n)))
+pub size_meant : (W : Setting) (straight : Bool) (place : Place) (n : TypeName) → Has (option_and_then size_number (option_and_then (size W.structs) (type_named W.scopes n))) (Meant W straight (elab.expression W.scopes (e.SizeOf place n)))
 size_meant W straight place n = of_type (type_named W.scopes n) refl
   where
-    sized : (t : CType) (c : ℕ) → type_named W.scopes n ≡ Some t → size W.structs t ≡ Some c → c < 2 ^ 64 → Meant W straight (elab.translated W.scopes (e.SizeOf place n)) (record { kind = U64; value = Some (pos c) })
+    sized : (t : CType) (c : ℕ) → type_named W.scopes n ≡ Some t → size W.structs t ≡ Some c → c < 2 ^ 64 → Meant W straight (elab.expression W.scopes (e.SizeOf place n)) (record { kind = U64; value = Some (pos c) })
     sized t c h g l = λ p.
         after (typing (typed.sized_type W.scopes place n) p) (typing_gives (λ u. type_named W.scopes n ≡ Some u) (typed.sized_type W.scopes place n) p (sized_named W.scopes place n p.tags)) (λ u s q.
         here (subst (λ d. Means W straight (record { kind = U64; value = Some (pos c) }) d s.drawn (record { before = []; expr = SizeOf u size_type; operand = o.value_of_type size_type })) q.1
         (means [] (SizeOf u size_type) standing.Value (alone W straight (record { kind = U64; value = Some (pos c) }) s.drawn (SizeOf u size_type) refl refl (record { from_least = omega (arith, ints, l); to_greatest = omega (arith, ints, l) })
         (λ _ w held. ap (λ v. option_map Vlong (size W.structs v)) (same_some u t (type_named W.scopes n) q.0 h) ∙ ap (option_map Vlong) g ∙ ap (λ b. Some (Vlong b)) (sym (repr-small I64 c l)))))))
 
-    fits : (t : CType) (c : ℕ) → type_named W.scopes n ≡ Some t → size W.structs t ≡ Some c → (b : Bool) → nat_lt c (2 ^ 64) ≡ b → Has (if b then Some (record { kind = U64; value = Some (pos c) }) else None) (Meant W straight (elab.translated W.scopes (e.SizeOf place n)))
+    fits : (t : CType) (c : ℕ) → type_named W.scopes n ≡ Some t → size W.structs t ≡ Some c → (b : Bool) → nat_lt c (2 ^ 64) ≡ b → Has (if b then Some (record { kind = U64; value = Some (pos c) }) else None) (Meant W straight (elab.expression W.scopes (e.SizeOf place n)))
     fits t c h g true l = record { holds = sized t c h g (ltb-true _ _ l) }
     fits t c h g false l = nothing
 
-    of_size : (t : CType) → type_named W.scopes n ≡ Some t → (z : Option ℕ) → size W.structs t ≡ z → Has (option_and_then size_number z) (Meant W straight (elab.translated W.scopes (e.SizeOf place n)))
+    of_size : (t : CType) → type_named W.scopes n ≡ Some t → (z : Option ℕ) → size W.structs t ≡ z → Has (option_and_then size_number z) (Meant W straight (elab.expression W.scopes (e.SizeOf place n)))
     of_size t h None g = nothing
     of_size t h (Some c) g = fits t c h g (nat_lt c (2 ^ 64)) refl
 
-    of_type : (z : Option CType) → type_named W.scopes n ≡ z → Has (option_and_then size_number (option_and_then (size W.structs) z)) (Meant W straight (elab.translated W.scopes (e.SizeOf place n)))
+    of_type : (z : Option CType) → type_named W.scopes n ≡ z → Has (option_and_then size_number (option_and_then (size W.structs) z)) (Meant W straight (elab.expression W.scopes (e.SizeOf place n)))
     of_type None h = nothing
     of_type (Some t) h = of_size t h (size W.structs t) refl
 
@@ -180,33 +180,33 @@ size_meant W straight place n = of_type (type_named W.scopes n) refl
 
 minus_meant : {W : Setting} {straight : Bool} {n : Number} {d : ℕ} {a : Translated} (place : Place) (p : Progress) → Means W straight n d p.drawn a → Gives (elab.prefix_operator Minus place a p) (λ r. Means W straight (numbers.on_promoted negation n) d r.1.drawn r.0)
 minus_meant {W} {straight} {n} {d} place p (means before x st f) =
-    let k = promoted n.kind in
+    let k = promote n.kind in
     let y = unary_of unary.Neg (into n.kind k x) (Int k) in
     here (subst (λ q. Means W straight (record { kind = q; value = option_and_then (negation q) (option_map (converted q) n.value) }) d p.drawn (record { before = before; expr = y; operand = o.value_of_type (Int k) })) (sym (promotion_is n.kind))
-    (means before y standing.Value (changed W straight n (record { kind = k; value = option_and_then (negation k) (option_map (converted k) n.value) }) d p.drawn before x y f refl refl (minus_range k n.value)
+    (means before y standing.Value (modify W straight n (record { kind = k; value = option_and_then (negation k) (option_map (converted k) n.value) }) d p.drawn before x y f refl refl (minus_range k n.value)
     (λ i. ap (λ v. option_and_then (negation k) (option_map (converted k) v)) i) (λ w h. (minus_evals W.structs W.look w x n.kind k n.value (promoted_wide n.kind) h).value))))
 
 complement_meant : {W : Setting} {straight : Bool} {n : Number} {d : ℕ} {a : Translated} (place : Place) (p : Progress) → Means W straight n d p.drawn a → Gives (elab.prefix_operator Complement place a p) (λ r. Means W straight (numbers.on_promoted complement n) d r.1.drawn r.0)
 complement_meant {W} {straight} {n} {d} place p (means before x st f) =
-    let k = promoted n.kind in
+    let k = promote n.kind in
     let y = unary_of unary.Complement (into n.kind k x) (Int k) in
     here (subst (λ q. Means W straight (record { kind = q; value = option_and_then (complement q) (option_map (converted q) n.value) }) d p.drawn (record { before = before; expr = y; operand = o.value_of_type (Int k) })) (sym (promotion_is n.kind))
-    (means before y standing.Value (changed W straight n (record { kind = k; value = option_and_then (complement k) (option_map (converted k) n.value) }) d p.drawn before x y f refl refl (complemented_range k n.value)
+    (means before y standing.Value (modify W straight n (record { kind = k; value = option_and_then (complement k) (option_map (converted k) n.value) }) d p.drawn before x y f refl refl (complemented_range k n.value)
     (λ i. ap (λ v. option_and_then (complement k) (option_map (converted k) v)) i) (λ w h. (complement_evals W.structs W.look w x n.kind k n.value (promoted_wide n.kind) h).value))))
 
-plus_meant : {W : Setting} {straight : Bool} {n : Number} {d : ℕ} {a : Translated} (place : Place) (p : Progress) → Means W straight n d p.drawn a → Gives (elab.prefix_operator Plus place a p) (λ r. Means W straight (numbers.promoted n) d r.1.drawn r.0)
+plus_meant : {W : Setting} {straight : Bool} {n : Number} {d : ℕ} {a : Translated} (place : Place) (p : Progress) → Means W straight n d p.drawn a → Gives (elab.prefix_operator Plus place a p) (λ r. Means W straight (numbers.promote n) d r.1.drawn r.0)
 plus_meant {W} {straight} {n} {d} place p (means before x st f) =
-    let k = promoted n.kind in
+    let k = promote n.kind in
     let y = into n.kind k x in
     here (subst (λ q. Means W straight (converted_to q n) d p.drawn (record { before = before; expr = y; operand = o.value_of_type (Int k) })) (sym (promotion_is n.kind))
-    (means before y standing.Value (changed W straight n (converted_to k n) d p.drawn before x y f (not_memory n.kind k x f.memory) (into_type n.kind k x f.ctype) (kept_range k n.value)
+    (means before y standing.Value (modify W straight n (converted_to k n) d p.drawn before x y f (not_memory n.kind k x f.memory) (into_type n.kind k x f.ctype) (kept_range k n.value)
     (λ i. ap (option_map (converted k)) i) (λ w h. (into_evals W.structs W.look w x n.kind k n.value h).value))))
 
 opposite_meant : {W : Setting} {straight : Bool} {n : Number} {d : ℕ} {a : Translated} (place : Place) (p : Progress) → Means W straight n d p.drawn a → Gives (elab.prefix_operator Not place a p) (λ r. Means W straight (numbers.opposite n) d r.1.drawn r.0)
 opposite_meant {W} {straight} {n} {d} place p (means before x st f) =
-    let k = promoted n.kind in
+    let k = promote n.kind in
     let y = unary_of unary.Not (into n.kind k x) (Int I32) in
-    here (means before y standing.Value (changed W straight n (numbers.opposite n) d p.drawn before x y f refl refl (opposite_range n.value)
+    here (means before y standing.Value (modify W straight n (numbers.opposite n) d p.drawn before x y f refl refl (opposite_range n.value)
     (λ i. ap (option_map (λ z. truth (is_zero z))) i) (λ w h. (opposite_evals W.structs W.look w x n.kind k n.value (promoted_range n.kind n.value f.range) h).value)))
 
 operator_meant : (W : Setting) (straight : Bool) (op : PrefixOp) (place : Place) (t : Elaborating Translated) (n : Number) → Meant W straight t n → Has (c.prefix_operator op n) (Meant W straight (t >>= elab.before_operator op >>= elab.prefix_operator op place))
@@ -219,7 +219,7 @@ operator_meant W straight Address place t n h = nothing
 
 converted_meant : {W : Setting} {straight : Bool} {n : Number} {d : ℕ} {a : Translated} (place : Place) (k : IntKind) (p : Progress) → Means W straight n d p.drawn a → Gives (elab.cast_to place (Int k) a p) (λ r. Means W straight (converted_to k n) d r.1.drawn r.0)
 converted_meant {W} {straight} {n} {d} place k p (means before x st f) =
-    here (means before (cast_of x (Int k)) standing.Value (changed W straight n (converted_to k n) d p.drawn before x (cast_of x (Int k)) f refl refl (kept_range k n.value)
+    here (means before (cast_of x (Int k)) standing.Value (modify W straight n (converted_to k n) d p.drawn before x (cast_of x (Int k)) f refl refl (kept_range k n.value)
     (λ i. ap (option_map (converted k)) i) (λ w h. (cast_evals W.structs W.look w x n.kind k n.value h).value)))
 
 -- the type of a cast, and then its operand
@@ -244,13 +244,13 @@ cast_meant W straight n place t a h = of_type (type_named W.scopes n) refl
     of_type (Some (Int k)) g = some_map (converted_to k) a h (λ b f. to_kind k g b f)
     of_type (Some u) g = nothing
 
-pub prefixed_meant : (W : Setting) (straight : Bool) (prefixes : List Prefix) (t : Elaborating Translated) (a : Option Number) → Has a (Meant W straight t) → Has (c.prefixed W.structs W.scopes W.variables prefixes a) (Meant W straight (elab.prefixed W.scopes prefixes t))
+pub prefixed_meant : (W : Setting) (straight : Bool) (prefixes : List Prefix) (t : Elaborating Translated) (a : Option Number) → Has a (Meant W straight t) → Has (c.with_prefixes W.structs W.scopes W.variables prefixes a) (Meant W straight (elab.with_prefixes W.scopes prefixes t))
 prefixed_meant W straight [] t a h = h
 prefixed_meant W straight (before.Op op place ∷ rest) t a h =
-    some_then (c.prefix_operator op) (c.prefixed W.structs W.scopes W.variables rest a) (prefixed_meant W straight rest t a h) (λ n f. operator_meant W straight op place (elab.prefixed W.scopes rest t) n f)
+    some_then (c.prefix_operator op) (c.with_prefixes W.structs W.scopes W.variables rest a) (prefixed_meant W straight rest t a h) (λ n f. operator_meant W straight op place (elab.with_prefixes W.scopes rest t) n f)
 prefixed_meant W straight (before.Step op place ∷ rest) t a h = nothing
 prefixed_meant W straight (before.Cast n place ∷ rest) t a h =
-    cast_meant W straight n place (elab.prefixed W.scopes rest t) (c.prefixed W.structs W.scopes W.variables rest a) (prefixed_meant W straight rest t a h)
+    cast_meant W straight n place (elab.with_prefixes W.scopes rest t) (c.with_prefixes W.structs W.scopes W.variables rest a) (prefixed_meant W straight rest t a h)
 
 -- ---- operators on two operands
 
@@ -269,18 +269,18 @@ arithmetic_meant W one two op on a b c d e first second x y f g =
     (λ w p q. (arithmetic_evals W.structs W.look w op on x y a.kind b.kind k a.value b.value (usual_wide a.kind b.kind) p q).value)))
 
 -- a shift's amount stays the same when it is promoted, and when it keeps its kind
-amount_same : (l : IntKind) (v : Option ℤ) → IfSome v (InRange l) → option_map (converted l) v ≡ option_map (converted (promoted l)) v
-amount_same l v h = kept_same l v h ∙ sym (kept_same (promoted l) v (promoted_range l v h))
+amount_same : (l : IntKind) (v : Option ℤ) → IfSome v (InRange l) → option_map (converted l) v ≡ option_map (converted (promote l)) v
+amount_same l v h = kept_same l v h ∙ sym (kept_same (promote l) v (promoted_range l v h))
 
 shift_number : (IntKind → ℤ → ℤ → Option ℕ) → IntKind → IntKind → Number → Number → Number
 shift_number f k l a b = record { kind = k; value = of_both (shift f k) (option_map (converted k) a.value) (option_map (converted l) b.value) }
 
 left_meant : (W : Setting) (one two : Bool) (a b : Number) (c d e : ℕ) (first second : List Stmt) (x y : Expr) → Facts W one a c d first x → Facts W two b d e second y →
-    Both W one two (numbers.shifted left_shift a b) c e first second (binary_of Shl (into a.kind (promoted a.kind) x) (into b.kind b.kind y) (Int (promoted a.kind))) (Int (promoted a.kind))
+    Both W one two (numbers.shifted left_shift a b) c e first second (binary_of Shl (into a.kind (promote a.kind) x) (into b.kind b.kind y) (Int (promote a.kind))) (Int (promote a.kind))
 unfolding shift_number
 left_meant W one two a b c d e first second x y f g =
-    let k = promoted a.kind in
-    let l = promoted b.kind in
+    let k = promote a.kind in
+    let l = promote b.kind in
     let z = binary_of Shl (into a.kind k x) (into b.kind b.kind y) (Int k) in
     subst (λ (q : IntKind × IntKind). Both W one two (shift_number left_shift q.0 q.1 a b) c e first second z (Int k)) (ap₂ (λ (u v : IntKind). (u, v)) (sym (promotion_is a.kind)) (sym (promotion_is b.kind)))
     (means (first ++ second) z standing.Value (fact.joined W one two a b (shift_number left_shift k l a b) c d e first second x y z f g refl refl (left_range k (option_map (converted k) a.value) (option_map (converted l) b.value))
@@ -290,11 +290,11 @@ left_meant W one two a b c d e first second x y f g =
     ∙ ap (λ u. option_map (value_as k) (of_both (shift left_shift k) (option_map (converted k) a.value) u)) (amount_same b.kind b.value g.range))))
 
 right_meant : (W : Setting) (one two : Bool) (a b : Number) (c d e : ℕ) (first second : List Stmt) (x y : Expr) → Facts W one a c d first x → Facts W two b d e second y →
-    Both W one two (numbers.shifted right_shift a b) c e first second (binary_of Shr (into a.kind (promoted a.kind) x) (into b.kind b.kind y) (Int (promoted a.kind))) (Int (promoted a.kind))
+    Both W one two (numbers.shifted right_shift a b) c e first second (binary_of Shr (into a.kind (promote a.kind) x) (into b.kind b.kind y) (Int (promote a.kind))) (Int (promote a.kind))
 unfolding shift_number
 right_meant W one two a b c d e first second x y f g =
-    let k = promoted a.kind in
-    let l = promoted b.kind in
+    let k = promote a.kind in
+    let l = promote b.kind in
     let z = binary_of Shr (into a.kind k x) (into b.kind b.kind y) (Int k) in
     subst (λ (q : IntKind × IntKind). Both W one two (shift_number right_shift q.0 q.1 a b) c e first second z (Int k)) (ap₂ (λ (u v : IntKind). (u, v)) (sym (promotion_is a.kind)) (sym (promotion_is b.kind)))
     (means (first ++ second) z standing.Value (fact.joined W one two a b (shift_number right_shift k l a b) c d e first second x y z f g refl refl (right_range k (option_map (converted k) a.value) (option_map (converted l) b.value))

@@ -22,7 +22,7 @@ use Rattle.floyd_elab_names.specs.declared.meaning.Storage.{Storage}
 use Rattle.floyd_elab_names.specs.declared.meaning.Storage.TheVariants as kept
 use Rattle.floyd_ctyping.specs.declared.operand.Operand.{Operand}
 use Rattle.floyd_elab_names.specs.declared.tags.Tags.{Tags}
-use Rattle.floyd_elab_names.specs.Doing.{◌>>=◌, pure, unless}
+use Rattle.floyd_elab_names.specs.Refusing.{◌>>=◌, pure, unless}
 use Rattle.floyd_elab_names.specs.Typing.{Typing}
 use Rattle.floyd_elab_names.specs.Refusals.{ill_typed}
 use Rattle.floyd_elab_names.specs.Scopes.{Scopes, meaning_of}
@@ -34,11 +34,11 @@ use Rattle.floyd_clight.specs.declared.syntax.Expr.{Expr, Const, Temp, Var, Dere
 use Rattle.floyd_clight.specs.declared.syntax.Stmt.{Stmt, Set, If, Loop, Row_of-Stmt, end_of-Stmt, more_of-Stmt, items-the_row-Stmt, items_hidden-the_row-Stmt-0}
 use Rattle.floyd_clight.specs.declared.syntax.Stmt.TheBlock.{hidden-the_row-Stmt-0, hidden-the_row-Stmt-1, shape-the_row-Stmt-1}
 use Rattle.floyd_clight.specs.Types.{type_of}
-use Rattle.floyd_elab_expressions.specs.Clight.{Translated, cast_into, cast_of, combined, literal_zero, test_of, is_truth, sequence, zero, one, is_memory, pulled_name, left_type, right_type, promoted_or_own}
+use Rattle.floyd_elab_expressions.specs.Clight.{Translated, cast_into, cast_of, combine, literal_zero, test_of, is_truth, sequence, zero, one, is_memory, pulled_name, left_type, right_type, promoted_or_own}
 use Rattle.floyd_elab_expressions.specs.declared.progress.Progress.{Progress}
 use Rattle.floyd_elab_expressions.specs.Progress.{Elaborating, typing}
 use Rattle.floyd_elab_expressions.specs.Expressions as elab
-use Rattle.floyd_elab_expressions.specs.Expressions.{read, pulled, translated, valued, named, named_expr, variable_of, prefixed, before_operator, prefix_operator, cast_to, binary_operator, indexed, member, before_member}
+use Rattle.floyd_elab_expressions.specs.Expressions.{read, pull_read, expression, rvalue, identifier, name_expr, variable_of, with_prefixes, before_operator, prefix_operator, cast_to, binary_operator, subscript, member, before_member}
 use Rattle.floyd_elab_laws.specs.Reads.{reads, place_reads, ReadsByPulls, AllReadByPulls}
 use Rattle.floyd_elab_laws.proofs.GivesLemmas.{Gives, after, here, refused, passing}
 use Rattle.floyd_elab_laws.proofs.MeaningLemmas.{typing_gives}
@@ -71,7 +71,7 @@ fine_loop a b g f = (g, f)
 
 -- ---- expressions
 
-neither : (a b : Bool) → a || b ≡ false → (a ≡ false) × (b ≡ false)
+pub neither : (a b : Bool) → a || b ≡ false → (a ≡ false) × (b ≡ false)
 neither true b h = absurd (true≢false h)
 neither false b h = (refl, h)
 
@@ -82,7 +82,7 @@ both_false a b h g = ap₂ (λ a b. a || b) h g
 place_of_value : (x : Expr) → reads x ≡ false → place_reads x ≡ false
 place_of_value (Const v t) h = refl
 place_of_value (Temp x t) h = refl
-place_of_value (Var x t) h = refl
+place_of_value (Var bound x t) h = refl
 place_of_value (Deref' p (more_of-Expr e end_of-Expr) t) h = (neither (is_scalar t) (reads e) h).1
 place_of_value (AddrOf' p (more_of-Expr e end_of-Expr) t) h = h
 place_of_value (Unary' op p (more_of-Expr e end_of-Expr) t) h = h
@@ -95,7 +95,7 @@ place_of_value (SizeOf of t) h = refl
 no_scalar : (x : Expr) → is_memory x ≡ true → reads x ≡ false → is_scalar (type_of x) ≡ false
 no_scalar (Const v t) m h = absurd (true≢false (sym m))
 no_scalar (Temp x t) m h = absurd (true≢false (sym m))
-no_scalar (Var x t) m h = h
+no_scalar (Var bound x t) m h = h
 no_scalar (Deref' p (more_of-Expr e end_of-Expr) t) m h = (neither (is_scalar t) (reads e) h).0
 no_scalar (AddrOf' p e t) m h = absurd (true≢false (sym m))
 no_scalar (Unary' op p e t) m h = absurd (true≢false (sym m))
@@ -107,7 +107,7 @@ no_scalar (SizeOf of t) m h = absurd (true≢false (sym m))
 unread : (x : Expr) → is_memory x ≡ true → place_reads x ≡ false → is_scalar (type_of x) ≡ false → reads x ≡ false
 unread (Const v t) m h g = refl
 unread (Temp x t) m h g = refl
-unread (Var x t) m h g = g
+unread (Var bound x t) m h g = g
 unread (Deref' p (more_of-Expr e end_of-Expr) t) m h g = both_false (is_scalar t) (reads e) g h
 unread (AddrOf' p (more_of-Expr e end_of-Expr) t) m h g = h
 unread (Unary' op p (more_of-Expr e end_of-Expr) t) m h g = h
@@ -139,7 +139,7 @@ places_of {r} h = by r h
     by (Err q) h = refused
 
 -- a pulled read
-pulled_value : (a : Translated) (p : Progress) → Place a → is_memory a.expr ≡ true → Gives (pulled a p) (λ r. Value r.0)
+pulled_value : (a : Translated) (p : Progress) → Place a → is_memory a.expr ≡ true → Gives (pull_read a p) (λ r. Value r.0)
 pulled_value a p h m =
     here (record {
       before = fine_append a.before (Set (pulled_name (p.drawn + 1)) a.expr ∷ []) h.before (inr (record { number = p.drawn + 1; name = refl; memory = m; place = h.place }), tt);
@@ -160,7 +160,7 @@ read_value a p h = by (is_memory a.expr && is_scalar a.operand.ctype) refl
     first true t e = refl
     first false t e = e
 
-    by : (t : Bool) → is_memory a.expr && is_scalar a.operand.ctype ≡ t → Gives ((if t then pulled a else pure a) p) (λ r. Value r.0)
+    by : (t : Bool) → is_memory a.expr && is_scalar a.operand.ctype ≡ t → Gives ((if t then pull_read a else pure a) p) (λ r. Value r.0)
     by true q = pulled_value a p h (first (is_memory a.expr) (is_scalar a.operand.ctype) q)
     by false q = here (unread_value a h q)
 
@@ -182,13 +182,13 @@ into_reads t a h = by (same_type (o.value_type a.operand) t)
     by true = h
     by false = h
 
-combined_reads : (op : IntOp) (a b : Translated) (t : CType) → reads a.expr ≡ false → reads b.expr ≡ false → reads (combined op a b t) ≡ false
+combined_reads : (op : IntOp) (a b : Translated) (t : CType) → reads a.expr ≡ false → reads b.expr ≡ false → reads (combine op a b t) ≡ false
 combined_reads op a b t h g = both_false (reads (cast_into (left_type op a.operand b.operand) a)) (reads (cast_into (right_type op a.operand b.operand) b)) (into_reads (left_type op a.operand b.operand) a h) (into_reads (right_type op a.operand b.operand) b g)
 
 pub test_reads : (c : e.CExpr) (a : Translated) → reads a.expr ≡ false → reads (test_of c a) ≡ false
 test_reads c a h = by (is_truth c)
   where
-    by : (b : Bool) → reads (if b then a.expr else combined Ne a literal_zero int_type) ≡ false
+    by : (b : Bool) → reads (if b then a.expr else combine Ne a literal_zero int_type) ≡ false
     by true = h
     by false = combined_reads Ne a literal_zero int_type h refl
 
@@ -205,7 +205,7 @@ variable_place kept.Block x a = record { before = tt; place = refl; value = λ m
 variable_place kept.Temporary x a = record { before = tt; place = refl; value = λ _. refl; scalar = λ m _. absurd (true≢false (sym m)) }
 variable_place kept.Parameter x a = record { before = tt; place = refl; value = λ _. refl; scalar = λ m _. absurd (true≢false (sym m)) }
 
-named_place : (i : Identifier) (a : Operand) (meaning : Option Meaning) → Place (record { before = []; expr = named_expr i a.ctype meaning; operand = a })
+named_place : (i : Identifier) (a : Operand) (meaning : Option Meaning) → Place (record { before = []; expr = name_expr i a.ctype meaning; operand = a })
 named_place i a (Some (m.Variable called t storage)) = variable_place storage called a
 named_place i a (Some (m.Type t constant)) = variable_place kept.Global i.name a
 named_place i a (Some (m.Function t)) = variable_place kept.Global i.name a
@@ -220,9 +220,9 @@ never_assigned : (place : position.Place) (a : Operand) (tags : Tags) → Gives 
 never_assigned place a tags = passing (unless (ill_typed place) (o.is_target a) tags) (λ x s. refused)
 
 never_called : (place : position.Place) (count : ℕ) (a : Operand) (tags : Tags) → Gives (typed.nested_call place count a tags) (λ r. ⊥)
-never_called place count a tags = passing (unless (ill_typed place) (is_some (o.called count a)) tags) (λ x s. refused)
+never_called place count a tags = passing (unless (ill_typed place) (is_some (o.callee_signature count a)) tags) (λ x s. refused)
 
-refused_place : (t : Typing Operand) (a : Translated) (p : Progress) → ((tags : Tags) → Gives (t tags) (λ r. ⊥)) → Gives (elab.refused t a p) (λ r. Place r.0)
+refused_place : (t : Typing Operand) (a : Translated) (p : Progress) → ((tags : Tags) → Gives (t tags) (λ r. ⊥)) → Gives (elab.nested_refusal t a p) (λ r. Place r.0)
 refused_place t a p h = after (typing t p) (typing_gives (λ r. ⊥) t p (h p.tags)) (λ r s q. absurd q.0)
 
 -- ---- prefixes
@@ -256,7 +256,7 @@ member_places Dot place field t h = λ p. after ((t >>= before_member Dot) p) (a
 member_places Arrow place field t h = λ p. after ((t >>= read) p) (values t h p) (λ a s f.
     passing (typing (typed.member Arrow place field a.operand) s) (λ r u. here (record { before = f.before; place = f.reads; value = λ m. absurd (true≢false m); scalar = λ _ g. g })))
 
-index_place : (place : position.Place) (a i : Translated) (p : Progress) → Value a → Value i → Gives (indexed place a i p) (λ r. Place r.0)
+index_place : (place : position.Place) (a i : Translated) (p : Progress) → Value a → Value i → Gives (subscript place a i p) (λ r. Place r.0)
 index_place place a i p h g =
     passing (typing (typed.gives_value place (o.binary_type p.tags.structs Add a.operand i.operand)) p) (λ sum s.
     passing (typing (typed.gives_object place (o.element_type p.tags.structs a.operand i.operand)) s) (λ r u.
@@ -274,53 +274,53 @@ abbrev drawn_for : CType → Progress → Progress
 drawn_for t p = record p { drawn = p.drawn + 1; temporaries = p.temporaries ++ record { name = pulled_name (p.drawn + 1); ctype = t } ∷ [] }
 
 module _ (scopes : Scopes) where
-  pub prefixed_places : (prefixes : List Prefix) (t : Elaborating Translated) → Places t → Places (prefixed scopes prefixes t)
+  pub prefixed_places : (prefixes : List Prefix) (t : Elaborating Translated) → Places t → Places (with_prefixes scopes prefixes t)
   prefixed_places [] t h = h
-  prefixed_places (before.Op op place ∷ rest) t h = operator_places op place (prefixed scopes rest t) (prefixed_places rest t h)
-  prefixed_places (before.Step op place ∷ rest) t h = λ p. after (prefixed scopes rest t p) (prefixed_places rest t h p) (λ a s f. refused_place (typed.nested_step place a.operand) a s (never_step place a.operand))
+  prefixed_places (before.Op op place ∷ rest) t h = operator_places op place (with_prefixes scopes rest t) (prefixed_places rest t h)
+  prefixed_places (before.Step op place ∷ rest) t h = λ p. after (with_prefixes scopes rest t p) (prefixed_places rest t h p) (λ a s f. refused_place (typed.nested_step place a.operand) a s (never_step place a.operand))
   prefixed_places (before.Cast n place ∷ rest) t h = λ p.
       passing (typing (type_named scopes (parenthesis place) n) p) (λ u s.
-      after ((prefixed scopes rest t >>= read) s) (values (prefixed scopes rest t) (prefixed_places rest t h) s) (λ a v f. cast_place place u a v f))
+      after ((with_prefixes scopes rest t >>= read) s) (values (with_prefixes scopes rest t) (prefixed_places rest t h) s) (λ a v f. cast_place place u a v f))
 
-  pub places : (c : e.CExpr) → Places (translated scopes c)
-  places (e.Name i) = λ p. passing (typing (typed.named i (meaning_of scopes i.name)) p) (λ a s. here (named_place i a (meaning_of scopes i.name)))
+  pub places : (c : e.CExpr) → Places (expression scopes c)
+  places (e.Name i) = λ p. passing (typing (typed.name_operand i (meaning_of scopes i.name)) p) (λ a s. here (named_place i a (meaning_of scopes i.name)))
   places (e.Literal l) = λ p. here (value_place (record { before = tt; reads = refl }))
   places (e.Parenthesised' p (e.more_of-CExpr inner e.end_of-CExpr)) = places inner
-  places (e.Prefixed' prefixes p (e.more_of-CExpr operand e.end_of-CExpr)) = prefixed_places prefixes (translated scopes operand) (places operand)
+  places (e.Prefixed' prefixes p (e.more_of-CExpr operand e.end_of-CExpr)) = prefixed_places prefixes (expression scopes operand) (places operand)
   places (e.SizeOf place n) = λ p. passing (typing (typed.sized_type scopes place n) p) (λ t s. here (value_place (record { before = tt; reads = refl })))
-  places (e.PostfixStep' p (e.more_of-CExpr operand e.end_of-CExpr) op place) = λ p. after (translated scopes operand p) (places operand p) (λ a s f. refused_place (typed.nested_step place a.operand) a s (never_step place a.operand))
+  places (e.PostfixStep' p (e.more_of-CExpr operand e.end_of-CExpr) op place) = λ p. after (expression scopes operand p) (places operand p) (λ a s f. refused_place (typed.nested_step place a.operand) a s (never_step place a.operand))
   places (e.Index' p (e.more_of-CExpr array e.end_of-CExpr) place q (e.more_of-CExpr index e.end_of-CExpr)) = λ p.
-      after ((translated scopes array >>= read) p) (values (translated scopes array) (places array) p) (λ a s f.
-      after ((translated scopes index >>= read) s) (values (translated scopes index) (places index) s) (λ i u g. index_place place a i u f g))
-  places (e.Call' p (e.more_of-CExpr function e.end_of-CExpr) place shape arguments) = λ p. after (translated scopes function p) (places function p) (λ a s f. refused_place (typed.nested_call place (length shape) a.operand) a s (never_called place (length shape) a.operand))
-  places (e.Member' p (e.more_of-CExpr operand e.end_of-CExpr) op place field) = member_places op place field (translated scopes operand) (places operand)
+      after ((expression scopes array >>= read) p) (values (expression scopes array) (places array) p) (λ a s f.
+      after ((expression scopes index >>= read) s) (values (expression scopes index) (places index) s) (λ i u g. index_place place a i u f g))
+  places (e.Call' p (e.more_of-CExpr function e.end_of-CExpr) place shape arguments) = λ p. after (expression scopes function p) (places function p) (λ a s f. refused_place (typed.nested_call place (length shape) a.operand) a s (never_called place (length shape) a.operand))
+  places (e.Member' p (e.more_of-CExpr operand e.end_of-CExpr) op place field) = member_places op place field (expression scopes operand) (places operand)
   places (e.Binary' p (e.more_of-CExpr left e.end_of-CExpr) (binary.Int op) place q (e.more_of-CExpr right e.end_of-CExpr)) = λ p.
-      after ((translated scopes left >>= read) p) (values (translated scopes left) (places left) p) (λ a s f.
-      after ((translated scopes right >>= read) s) (values (translated scopes right) (places right) s) (λ b u g. places_of (binary_value op place a b u f g)))
+      after ((expression scopes left >>= read) p) (values (expression scopes left) (places left) p) (λ a s f.
+      after ((expression scopes right >>= read) s) (values (expression scopes right) (places right) s) (λ b u g. places_of (binary_value op place a b u f g)))
   places (e.Binary' p (e.more_of-CExpr left e.end_of-CExpr) binary.And place q (e.more_of-CExpr right e.end_of-CExpr)) = λ p.
-      after ((translated scopes left >>= read) p) (values (translated scopes left) (places left) p) (λ a s f.
-      passing (typing (typed.tested place a.operand) s) (λ x u.
-      after ((translated scopes right >>= read) (drawn_for int_type u)) (values (translated scopes right) (places right) (drawn_for int_type u)) (λ b v g.
-      passing (typing (typed.tested place b.operand) v) (λ y w.
+      after ((expression scopes left >>= read) p) (values (expression scopes left) (places left) p) (λ a s f.
+      passing (typing (typed.check_test place a.operand) s) (λ x u.
+      after ((expression scopes right >>= read) (drawn_for int_type u)) (values (expression scopes right) (places right) (drawn_for int_type u)) (λ b v g.
+      passing (typing (typed.check_test place b.operand) v) (λ y w.
       here (temporary_place a.before (elab.both (test_of left a) b.before (test_of right b) (pulled_name (u.drawn + 1))) (pulled_name (u.drawn + 1)) int_type (o.value_of_type int_type) f.before
       (fine_if (test_of left a) (sequence (b.before ++ Set (pulled_name (u.drawn + 1)) (test_of right b) ∷ [])) (Set (pulled_name (u.drawn + 1)) zero) (test_reads left a f.reads) (set_fine b.before (pulled_name (u.drawn + 1)) (test_of right b) g.before (test_reads right b g.reads)) (inl refl)))))))
   places (e.Binary' p (e.more_of-CExpr left e.end_of-CExpr) binary.Or place q (e.more_of-CExpr right e.end_of-CExpr)) = λ p.
-      after ((translated scopes left >>= read) p) (values (translated scopes left) (places left) p) (λ a s f.
-      passing (typing (typed.tested place a.operand) s) (λ x u.
-      after ((translated scopes right >>= read) (drawn_for int_type u)) (values (translated scopes right) (places right) (drawn_for int_type u)) (λ b v g.
-      passing (typing (typed.tested place b.operand) v) (λ y w.
+      after ((expression scopes left >>= read) p) (values (expression scopes left) (places left) p) (λ a s f.
+      passing (typing (typed.check_test place a.operand) s) (λ x u.
+      after ((expression scopes right >>= read) (drawn_for int_type u)) (values (expression scopes right) (places right) (drawn_for int_type u)) (λ b v g.
+      passing (typing (typed.check_test place b.operand) v) (λ y w.
       here (temporary_place a.before (elab.one_of (test_of left a) b.before (test_of right b) (pulled_name (u.drawn + 1))) (pulled_name (u.drawn + 1)) int_type (o.value_of_type int_type) f.before
       (fine_if (test_of left a) (Set (pulled_name (u.drawn + 1)) one) (sequence (b.before ++ Set (pulled_name (u.drawn + 1)) (test_of right b) ∷ [])) (test_reads left a f.reads) (inl refl) (set_fine b.before (pulled_name (u.drawn + 1)) (test_of right b) g.before (test_reads right b g.reads))))))))
   places (e.Conditional' p (e.more_of-CExpr test e.end_of-CExpr) place q (e.more_of-CExpr first e.end_of-CExpr) r (e.more_of-CExpr second e.end_of-CExpr)) = λ p.
-      after ((translated scopes test >>= read) p) (values (translated scopes test) (places test) p) (λ c s f.
-      passing (typing (typed.tested place c.operand) s) (λ x u.
-      after ((translated scopes first >>= read) (record u { drawn = u.drawn + 1 })) (values (translated scopes first) (places first) (record u { drawn = u.drawn + 1 })) (λ a v g.
-      after ((translated scopes second >>= read) v) (values (translated scopes second) (places second) v) (λ b w h.
+      after ((expression scopes test >>= read) p) (values (expression scopes test) (places test) p) (λ c s f.
+      passing (typing (typed.check_test place c.operand) s) (λ x u.
+      after ((expression scopes first >>= read) (record u { drawn = u.drawn + 1 })) (values (expression scopes first) (places first) (record u { drawn = u.drawn + 1 })) (λ a v g.
+      after ((expression scopes second >>= read) v) (values (expression scopes second) (places second) v) (λ b w h.
       passing (typing (typed.gives_value place (o.common_type a.operand b.operand)) w) (λ result z.
       here (temporary_place c.before (If (test_of test c) (sequence (a.before ++ Set (pulled_name (u.drawn + 1)) (cast_into result.ctype a) ∷ [])) (sequence (b.before ++ Set (pulled_name (u.drawn + 1)) (cast_into result.ctype b) ∷ []))) (pulled_name (u.drawn + 1)) result.ctype result f.before
       (fine_if (test_of test c) (sequence (a.before ++ Set (pulled_name (u.drawn + 1)) (cast_into result.ctype a) ∷ [])) (sequence (b.before ++ Set (pulled_name (u.drawn + 1)) (cast_into result.ctype b) ∷ [])) (test_reads test c f.reads)
       (set_fine a.before (pulled_name (u.drawn + 1)) (cast_into result.ctype a) g.before (into_reads result.ctype a g.reads)) (set_fine b.before (pulled_name (u.drawn + 1)) (cast_into result.ctype b) h.before (into_reads result.ctype b h.reads)))))))))
-  places (e.Assign' p (e.more_of-CExpr target e.end_of-CExpr) op place q value) = λ p. after (translated scopes target p) (places target p) (λ a s f. refused_place (typed.nested_assignment place a.operand) a s (never_assigned place a.operand))
+  places (e.Assign' p (e.more_of-CExpr target e.end_of-CExpr) op place q value) = λ p. after (expression scopes target p) (places target p) (λ a s f. refused_place (typed.nested_assignment place a.operand) a s (never_assigned place a.operand))
 
-  pub valued_values : (c : e.CExpr) → Values (valued scopes c)
-  valued_values c = values (translated scopes c) (places c)
+  pub valued_values : (c : e.CExpr) → Values (rvalue scopes c)
+  valued_values c = values (expression scopes c) (places c)

@@ -9,8 +9,8 @@ use Rattle.floyd_ctypes.specs.Structs.{Structs}
 use Rattle.floyd_clight.specs.declared.syntax.Expr.{Expr}
 use Rattle.floyd_clight.specs.declared.syntax.Stmt.{Stmt, Seq, If, Row_of-Stmt, end_of-Stmt, more_of-Stmt, items-the_row-Stmt, items_hidden-the_row-Stmt-0}
 use Rattle.floyd_clight.specs.declared.syntax.Stmt.TheBlock.{hidden-the_row-Stmt-0, hidden-the_row-Stmt-1, shape-the_row-Stmt-1}
-use Rattle.floyd_clight.specs.Evaluation.{Ident, Temps, with_temp, Look, eval_by}
-use Rattle.floyd_clight.specs.Machine.{is_true}
+use Rattle.floyd_clight_machine.specs.Evaluation.{Ident, Temps, with_temp, Look, eval_by}
+use Rattle.floyd_clight_machine.specs.Machine.{is_true}
 use Rattle.floyd_elab_expressions.specs.Clight.{sequence}
 use Rattle.floyd_elab_laws.specs.Running.{run, run_rows, run_all}
 

@@ -20,7 +20,7 @@ use Rattle.floyd_elab_expressions.specs.Clight.{is_truth, begins_with_not}
 use Rattle.floyd_elab_laws.specs.Conversions.{converted, common_kind}
 use Rattle.floyd_elab_laws.specs.Numbers.{Number, of_both, truth, is_zero, operation, of_kind, opposite}
 use Rattle.floyd_elab_laws.specs.Numbers as numbers
-use Rattle.floyd_elab_laws.specs.CMeaning.{prefixed, number, joined}
+use Rattle.floyd_elab_laws.specs.CMeaning.{with_prefixes, number, joined}
 use Rattle.floyd_elab_laws.specs.CMeaning as c
 use Rattle.floyd_elab_laws.proofs.GivesLemmas.{Has, some_then, some_map, anything}
 use Rattle.floyd_elab_laws.proofs.BranchLemmas.{IsTruth, truth_again, truth_value}
@@ -93,9 +93,9 @@ opposite_bits : (v : Option ℤ) → IfSome (option_map (λ z. truth (is_zero z)
 opposite_bits None = tt
 opposite_bits (Some z) = truth_again (is_zero z)
 
-prefix_truth : (structs : Structs) (scopes : Scopes) (variables : List ℕ → ℤ) (prefixes : List Prefix) (a : Option Number) → begins_with_not prefixes ≡ true → Has (prefixed structs scopes variables prefixes a) IsTruth
+prefix_truth : (structs : Structs) (scopes : Scopes) (variables : List ℕ → ℤ) (prefixes : List Prefix) (a : Option Number) → begins_with_not prefixes ≡ true → Has (with_prefixes structs scopes variables prefixes a) IsTruth
 prefix_truth structs scopes variables (before.Op Not place ∷ rest) a h =
-    some_then (c.prefix_operator Not) (prefixed structs scopes variables rest a) (anything (prefixed structs scopes variables rest a)) (λ n _. record { holds = record { kind = refl; value = opposite_bits n.value } })
+    some_then (c.prefix_operator Not) (with_prefixes structs scopes variables rest a) (anything (with_prefixes structs scopes variables rest a)) (λ n _. record { holds = record { kind = refl; value = opposite_bits n.value } })
 prefix_truth structs scopes variables prefixes a h = absurd (true≢false (sym h))
 
 -- what is a test as it is written has a truth value

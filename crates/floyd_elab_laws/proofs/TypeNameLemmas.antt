@@ -4,7 +4,6 @@ use Rattle.std.specs.Prelude.{option_and_then, option_map}
 use Rattle.std.proofs.lemmas.List.{append_assoc, append-nil, map-append}
 use Rattle.floyd_ctypes.specs.declared.ctype.CType.{CType, Function}
 use Rattle.floyd_ctypes.specs.declared.field.Field.{Field}
-use Rattle.floyd_ctypes.specs.Define.{declared}
 use Rattle.floyd_cparse_trees.specs.declared.types.Identifier.{Identifier}
 use Rattle.floyd_cparse_trees.specs.declared.types.TypeName.{TypeName}
 use Rattle.floyd_cparse_trees.specs.declared.types.Base as b
@@ -12,23 +11,23 @@ use Rattle.floyd_cparse_trees.specs.declared.types.Declarator as d
 use Rattle.floyd_elab_names.specs.declared.meaning.Meaning.{Meaning}
 use Rattle.floyd_elab_names.specs.declared.meaning.Meaning.TheVariants as m
 use Rattle.floyd_elab_names.specs.declared.tags.Tags.{Tags}
-use Rattle.floyd_elab_names.specs.Doing.{unless, or_refuse, in_turn}
+use Rattle.floyd_elab_names.specs.Refusing.{unless, or_refuse, in_turn}
 use Rattle.floyd_elab_names.specs.Refusals.{Site, left_out, ill_typed, undeclared}
 use Rattle.floyd_elab_names.specs.Scopes.{Scopes, meaning_of}
-use Rattle.floyd_elab_names.specs.Types.{decayed, array_of, is_within, is_object_within, returns_well, is_parameter_type}
+use Rattle.floyd_elab_names.specs.Types.{decay, array_of, is_within, is_object_within, returns_well, is_parameter_type}
 use Rattle.floyd_elab_names.specs.Declarators as typing
 use Rattle.floyd_elab_laws.specs.TypeNames.{typedef, base, made, parameters, type_named}
 use Rattle.floyd_elab_laws.proofs.GivesLemmas.{Gives, after, here, refused, passing, thus}
 
-typedef_named : (i : Identifier) (meaning : Option Meaning) (tags : Tags) → Gives (or_refuse (undeclared i) (typing.type_meant meaning) tags) (λ r. typedef meaning ≡ Some r.0)
+typedef_named : (i : Identifier) (meaning : Option Meaning) (tags : Tags) → Gives (or_refuse (undeclared i) (typing.typedef_type meaning) tags) (λ r. typedef meaning ≡ Some r.0)
 typedef_named i (Some (m.Type t constant)) tags = here refl
 typedef_named i (Some (m.Variable called t storage)) tags = refused
 typedef_named i (Some (m.Function t)) tags = refused
 typedef_named i None tags = refused
 
-parameter_type : (site : Site) (names : List (List ℕ)) (d : d.Declarator) (t : CType) (tags : Tags) → Gives (typing.parameter_declared site names d t tags) (λ r. r.0.ty ≡ decayed t)
+parameter_type : (site : Site) (names : List (List ℕ)) (d : d.Declarator) (t : CType) (tags : Tags) → Gives (typing.new_parameter site names d t tags) (λ r. r.0.ty ≡ decay t)
 parameter_type site names d t tags =
-    passing (unless (left_out (typing.limit_site site d)) (is_object_within tags.structs (decayed t)) tags) (λ x s.
+    passing (unless (left_out (typing.limit_site site d)) (is_object_within tags.structs (decay t)) tags) (λ x s.
     passing (unless (ill_typed (typing.name_site site d).place) (typing.has_sizes d && is_parameter_type tags.structs t) s) (λ y u.
     passing (typing.unless_among names (typing.name_of d) u) (λ z v. here refl)))
 
@@ -44,7 +43,7 @@ record Added (scopes : Scopes) (first : b.Base) (d : d.Declarator) (before after
   made_type : CType
   base_is : base scopes first ≡ Some base_type
   made_is : made scopes base_type d ≡ Some made_type
-  behind : typing.field_types after ≡ typing.field_types before ++ decayed made_type ∷ []
+  behind : typing.field_types after ≡ typing.field_types before ++ decay made_type ∷ []
 
 module _ (scopes : Scopes) where
   base_named : (site : Site) (first : b.Base) (tags : Tags) → Gives (typing.base_type scopes site first tags) (λ r. base scopes first ≡ Some r.0)
@@ -52,8 +51,9 @@ module _ (scopes : Scopes) where
   base_named site (b.Int k) tags = here refl
   base_named site (b.Struct tag) tags = here refl
   base_named site (b.StructWith' tag shape rows) tags =
-      passing (in_turn (typing.field_rows scopes site rows) [] (record tags { structs = declared tags.structs tag.name })) (λ fields s.
-      passing (typing.complete tag fields s) (λ x u. here refl))
+      passing (typing.begin_fields tag tags) (λ v w.
+      passing (in_turn (typing.field_rows scopes site rows) [] w) (λ fields s.
+      passing (typing.complete tag fields s) (λ x u. here refl)))
   base_named site (b.Typedef i) tags = typedef_named i (meaning_of scopes i.name) tags
 
   parameter_named : (site : Site) (first : b.Base) (d : d.Declarator) (before : List Field) (tags : Tags) → ((tags : Tags) → Gives (typing.made_by scopes (typing.name_site site d) d tags) (λ r. (t : CType) → made scopes t d ≡ Some (r.0 t))) →
@@ -61,7 +61,7 @@ module _ (scopes : Scopes) where
   parameter_named site first d before tags named =
       after (typing.base_type scopes site first tags) (base_named site first tags) (λ t s h.
       after (typing.made_by scopes (typing.name_site site d) d s) (named s) (λ make u g.
-      after (typing.parameter_declared site (typing.field_names before) d (make t) u) (parameter_type site (typing.field_names before) d (make t) u) (λ c v e.
+      after (typing.new_parameter site (typing.field_names before) d (make t) u) (parameter_type site (typing.field_names before) d (make t) u) (λ c v e.
       here (record {
         base_type = t;
         made_type = make t;
@@ -90,11 +90,11 @@ module _ (scopes : Scopes) where
         after (typing.parameter_after site d (typing.base_type scopes site first) (typing.made_by scopes (typing.name_site site d) d) before tags) (parameter_named site first d before tags (λ s. made_named (typing.name_site site d) d s)) (λ fs s e.
         thus (in_turn (typing.parameter_rows scopes site rest) fs s) (parameters_named site rest fs s) (λ r f.
         record {
-          types = decayed e.made_type ∷ f.types;
-          found = ap (option_and_then (λ t. option_and_then (λ u. option_map (λ us. decayed u ∷ us) (parameters scopes rest)) (made scopes t d))) e.base_is
-              ∙ ap (option_and_then (λ u. option_map (λ us. decayed u ∷ us) (parameters scopes rest))) e.made_is
-              ∙ ap (option_map (λ us. decayed e.made_type ∷ us)) f.found;
-          behind = f.behind ∙ ap (λ ts. ts ++ f.types) e.behind ∙ append_assoc (typing.field_types before) (decayed e.made_type ∷ []) f.types;
+          types = decay e.made_type ∷ f.types;
+          found = ap (option_and_then (λ t. option_and_then (λ u. option_map (λ us. decay u ∷ us) (parameters scopes rest)) (made scopes t d))) e.base_is
+              ∙ ap (option_and_then (λ u. option_map (λ us. decay u ∷ us) (parameters scopes rest))) e.made_is
+              ∙ ap (option_map (λ us. decay e.made_type ∷ us)) f.found;
+          behind = f.behind ∙ ap (λ ts. ts ++ f.types) e.behind ∙ append_assoc (typing.field_types before) (decay e.made_type ∷ []) f.types;
         }))
 
   declarator_named : (site : Site) (t : CType) (d : d.Declarator) (tags : Tags) → Gives (typing.declarator_type scopes site t d tags) (λ r. made scopes t d ≡ Some r.0)

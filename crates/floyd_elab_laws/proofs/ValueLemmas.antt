@@ -14,9 +14,9 @@ use Rattle.floyd_int.specs.declared.kinds.Value.TheVariants.{Vint, Vlong}
 use Rattle.floyd_int.specs.Kind.{width, is_signed, InRange, repr_of, value_of}
 use Rattle.floyd_int.specs.Operation.{is_in_range, arithmetic, can_divide, can_shift, left_shift, right_shift, floor_div, operation_of, negation_of, is_comparison}
 use Rattle.floyd_int.proofs.KindLaws.{InRange-value, repr-below, repr-value, value-repr}
-use Rattle.floyd_elab_names.specs.Types.{promoted, usual, rank}
+use Rattle.floyd_elab_names.specs.Types.{promote, usual, rank}
 use Rattle.floyd_clight.specs.declared.syntax.UnaryOp.TheVariants.{Neg, Complement, Not}
-use Rattle.floyd_clight.specs.Integers as i
+use Rattle.floyd_clight_machine.specs.Integers as i
 use Rattle.floyd_elab_laws.specs.Conversions.{converted}
 use Rattle.floyd_elab_laws.specs.Numbers.{truth, is_zero, negation, complement, result_kind, operation, shift}
 use Rattle.floyd_elab_laws.specs.Laws.{value_as}
@@ -61,7 +61,7 @@ pub record IsWide (k : IntKind) : Type 0 where
   pub same : i.read_as k ≡ k
   pub common : i.common k k ≡ Some k
 
-pub promoted_wide : (k : IntKind) → IsWide (promoted k)
+pub promoted_wide : (k : IntKind) → IsWide (promote k)
 promoted_wide I8 = record { same = refl; common = refl }
 promoted_wide U8 = record { same = refl; common = refl }
 promoted_wide I16 = record { same = refl; common = refl }
@@ -72,9 +72,9 @@ promoted_wide I64 = record { same = refl; common = refl }
 promoted_wide U64 = record { same = refl; common = refl }
 
 pub usual_wide : (j k : IntKind) → IsWide (usual j k)
-usual_wide j k = by (nat_le (rank (promoted j)) (rank (promoted k)))
+usual_wide j k = by (nat_le (rank (promote j)) (rank (promote k)))
   where
-    by : (t : Bool) → IsWide (if t then promoted k else promoted j)
+    by : (t : Bool) → IsWide (if t then promote k else promote j)
     by true = promoted_wide k
     by false = promoted_wide j
 
@@ -195,8 +195,8 @@ results_as op k (Some b) h = ap Some (result_as op k b h)
 -- an operator that is no shift
 pub binary_as : (op : IntOp) → ((k l : IntKind) (a b : ℕ) → i.on_bits op k l a b ≡ i.operate op (i.common k l) a b) → (k : IntKind) (x y : ℤ) → IsWide k → i.binary op k k (value_as k x) (value_as k y) ≡ option_map (value_as (result_kind op k)) (operation op k x y)
 binary_as op on k x y w =
-    ap₂ (λ u v. option_and_then (λ a. option_and_then (i.on_bits op (i.read_as k) k a) v) u) (bits_as k x) (bits_as k y)
-    ∙ ap (λ r. i.on_bits op r k (repr_of r x) (repr_of r y)) w.same
+    ap₂ (λ u v. option_and_then (λ a. option_and_then (i.on_bits op (i.read_as k) (i.read_as k) a) v) u) (bits_as k x) (bits_as k y)
+    ∙ ap (λ r. i.on_bits op r r (repr_of r x) (repr_of r y)) w.same
     ∙ on k k (repr_of k x) (repr_of k y)
     ∙ ap (λ c. i.operate op c (repr_of k x) (repr_of k y)) w.common
     ∙ results_as op k (operation_of op k (repr_of k x) (repr_of k y)) (operation_below op k (repr_of k x) (repr_of k y) (repr-below k x) (repr-below k y))
@@ -206,14 +206,14 @@ operation_range op k x y = value_range (result_kind op k) (operation_of op k (re
 
 pub left_as : (k l : IntKind) (x y : ℤ) → IsWide k → InRange k x → InRange l y → i.binary Shl k l (value_as k x) (value_as l y) ≡ option_map (value_as k) (shift left_shift k x y)
 left_as k l x y w h g =
-    ap₂ (λ u v. option_and_then (λ a. option_and_then (i.on_bits Shl (i.read_as k) l a) v) u) (bits_as k x) (bits_as l y)
-    ∙ ap (λ r. i.left_by r l (repr_of r x) (repr_of (i.read_as l) y)) w.same
+    ap₂ (λ u v. option_and_then (λ a. option_and_then (i.on_bits Shl (i.read_as k) (i.read_as l) a) v) u) (bits_as k x) (bits_as l y)
+    ∙ ap (λ r. i.left_by r (i.read_as l) (repr_of r x) (repr_of (i.read_as l) y)) w.same
     ∙ ap₂ (λ a b. option_map (i.value_with k) (left_shift k a b)) (value-repr k x h) (read_back l y g)
     ∙ values_as k (left_shift k x y) (left_below k x y)
 
 pub right_as : (k l : IntKind) (x y : ℤ) → IsWide k → InRange k x → InRange l y → i.binary Shr k l (value_as k x) (value_as l y) ≡ option_map (value_as k) (shift right_shift k x y)
 right_as k l x y w h g =
-    ap₂ (λ u v. option_and_then (λ a. option_and_then (i.on_bits Shr (i.read_as k) l a) v) u) (bits_as k x) (bits_as l y)
-    ∙ ap (λ r. i.right_by r l (repr_of r x) (repr_of (i.read_as l) y)) w.same
+    ap₂ (λ u v. option_and_then (λ a. option_and_then (i.on_bits Shr (i.read_as k) (i.read_as l) a) v) u) (bits_as k x) (bits_as l y)
+    ∙ ap (λ r. i.right_by r (i.read_as l) (repr_of r x) (repr_of (i.read_as l) y)) w.same
     ∙ ap₂ (λ a b. option_map (i.value_with k) (right_shift k a b)) (value-repr k x h) (read_back l y g)
     ∙ values_as k (right_shift k x y) (right_below k x y)

@@ -20,7 +20,7 @@ use Rattle.floyd_elab_names.specs.declared.meaning.Storage.{Storage}
 use Rattle.floyd_elab_names.specs.declared.meaning.Storage.TheVariants as kept
 use Rattle.floyd_elab_names.specs.Scopes.{Scopes, meaning_of}
 use Rattle.floyd_elab_names.specs.Types.{kind_of}
-use Rattle.floyd_elab_laws.specs.Numbers.{Number, converted_to, promoted, on_promoted, negation, complement, opposite, both_true, one_true, chosen}
+use Rattle.floyd_elab_laws.specs.Numbers.{Number, converted_to, promote, on_promoted, negation, complement, opposite, both_true, one_true, chosen}
 use Rattle.floyd_elab_laws.specs.Numbers as numbers
 use Rattle.floyd_elab_laws.specs.TypeNames.{type_named}
 
@@ -64,7 +64,7 @@ size_number n = if nat_lt n (2 ^ 64) then Some (record { kind = U64; value = Som
 -- an operator before an operand
 abbrev pub prefix_operator : PrefixOp → Number → Option Number
 prefix_operator Minus a = Some (on_promoted negation a)
-prefix_operator Plus a = Some (promoted a)
+prefix_operator Plus a = Some (promote a)
 prefix_operator Complement a = Some (on_promoted complement a)
 prefix_operator Not a = Some (opposite a)
 prefix_operator Dereference a = None
@@ -79,18 +79,18 @@ joined binary.Or a b = one_true a b
 -- `structs` are those of the program, and `variables` what each name in sight holds
 module _ (structs : Structs) (scopes : Scopes) (variables : List ℕ → ℤ) where
   -- the last of the prefixes binds first
-  abbrev pub prefixed : List Prefix → Option Number → Option Number
-  prefixed [] operand = operand
-  prefixed (before.Op op place ∷ rest) operand = option_and_then (prefix_operator op) (prefixed rest operand)
-  prefixed (before.Step op place ∷ rest) operand = None
-  prefixed (before.Cast n place ∷ rest) operand =
-      option_and_then (λ k. option_map (converted_to k) (prefixed rest operand)) (option_and_then kind_of (type_named scopes n))
+  abbrev pub with_prefixes : List Prefix → Option Number → Option Number
+  with_prefixes [] operand = operand
+  with_prefixes (before.Op op place ∷ rest) operand = option_and_then (prefix_operator op) (with_prefixes rest operand)
+  with_prefixes (before.Step op place ∷ rest) operand = None
+  with_prefixes (before.Cast n place ∷ rest) operand =
+      option_and_then (λ k. option_map (converted_to k) (with_prefixes rest operand)) (option_and_then kind_of (type_named scopes n))
 
   abbrev pub number : e.CExpr → Option Number
   number (e.Name i) = option_map (variable (variables i.name)) (variable_kind (meaning_of scopes i.name))
   number (e.Literal l) = constant l
   number (e.Parenthesised' p (e.more_of-CExpr inner e.end_of-CExpr)) = number inner
-  number (e.Prefixed' prefixes p (e.more_of-CExpr operand e.end_of-CExpr)) = prefixed prefixes (number operand)
+  number (e.Prefixed' prefixes p (e.more_of-CExpr operand e.end_of-CExpr)) = with_prefixes prefixes (number operand)
   number (e.SizeOf place n) = option_and_then size_number (option_and_then (size structs) (type_named scopes n))
   number (e.PostfixStep' p operand op place) = None
   number (e.Index' p array place q index) = None

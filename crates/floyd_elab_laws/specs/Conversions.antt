@@ -1,4 +1,5 @@
--- Conversions of integers in C, on whole numbers, in the words of the C standard.
+-- Conversions of integers in C, on whole numbers, in the words of the C standard. A conversion to a signed kind that
+-- cannot represent the value is left to the implementation: here it takes the low bits.
 use Rattle.std.specs.Prelude.{Bool, true, false, ◌&&◌, ℤ, int_le, nat_le, if◌then◌else◌}
 use Rattle.floyd_int.specs.declared.kinds.IntKind.{IntKind}
 use Rattle.floyd_int.specs.declared.kinds.IntKind.TheVariants.{I8, U8, I16, U16, I32, U32, I64, U64}

@@ -6,3 +6,4 @@ pub mod CMeaning
 pub mod Running
 pub mod Laws
 pub mod Reads
+pub mod Places

@@ -1,4 +1,6 @@
--- The operators of C on integers. A value is a whole number; `None` stands where C leaves it undefined.
+-- The operators of C on integers. A value is a whole number. `None` stands where C leaves it undefined, but for a left
+-- shift of a signed number, which keeps the low bits (`1 << 31`). What C leaves to the implementation is as gcc and clang
+-- have it: a conversion out of range takes the low bits, and `>>` of a negative number keeps its sign.
 use Rattle.std.specs.Prelude.{ℕ, ◌-◌, ◌^◌, Bool, true, false, not, ℤ, pos, Option, Some, option_map, option_and_then, if◌then◌else◌, bit_xor}
 use Rattle.std.specs.Int.{from_bool}
 use Rattle.std.specs.Ordering.{int_eq}
@@ -18,8 +20,8 @@ pub record Number : Type 0 where
 abbrev pub converted_to : IntKind → Number → Number
 converted_to k a = record { kind = k; value = option_map (converted k) a.value }
 
-abbrev pub promoted : Number → Number
-promoted a = converted_to (promotion a.kind) a
+abbrev pub promote : Number → Number
+promote a = converted_to (promotion a.kind) a
 
 -- 1 or 0
 abbrev pub truth : Bool → ℤ
@@ -41,7 +43,7 @@ abbrev pub complement : IntKind → ℤ → Option ℤ
 complement k x = Some (value_of k (bit_xor (repr_of k x) (2 ^ width k - 1)))
 
 abbrev pub on_promoted : (IntKind → ℤ → Option ℤ) → Number → Number
-on_promoted f a = record { kind = (promoted a).kind; value = option_and_then (f (promoted a).kind) (promoted a).value }
+on_promoted f a = record { kind = (promote a).kind; value = option_and_then (f (promote a).kind) (promote a).value }
 
 abbrev pub opposite : Number → Number
 opposite a = record { kind = I32; value = option_map (λ x. truth (is_zero x)) a.value }
@@ -62,7 +64,7 @@ abbrev pub shift : (IntKind → ℤ → ℤ → Option ℕ) → IntKind → ℤ 
 shift f k x y = option_map (value_of k) (f k x y)
 
 abbrev pub shifted : (IntKind → ℤ → ℤ → Option ℕ) → Number → Number → Number
-shifted f a b = record { kind = (promoted a).kind; value = of_both (shift f (promoted a).kind) (promoted a).value (promoted b).value }
+shifted f a b = record { kind = (promote a).kind; value = of_both (shift f (promote a).kind) (promote a).value (promote b).value }
 
 -- any operator between two operands; all but the shifts bring them to their common kind
 abbrev pub binary : IntOp → Number → Number → Number

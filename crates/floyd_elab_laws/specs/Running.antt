@@ -2,8 +2,8 @@
 use Rattle.std.specs.Prelude.{List, [], ◌∷◌, Option, Some, None, option_map, option_and_then, if◌then◌else◌}
 use Rattle.floyd_ctypes.specs.Structs.{Structs}
 use Rattle.floyd_clight.specs.declared.syntax.Stmt.{Stmt, Skip, Set, Seq', If', Row_of-Stmt, end_of-Stmt, more_of-Stmt}
-use Rattle.floyd_clight.specs.Evaluation.{Temps, with_temp, Look, eval_by}
-use Rattle.floyd_clight.specs.Machine.{is_true}
+use Rattle.floyd_clight_machine.specs.Evaluation.{Temps, with_temp, Look, eval_by}
+use Rattle.floyd_clight_machine.specs.Machine.{is_true}
 
 module _ (structs : Structs) (look : Look) where
   -- None stands where the machine is stuck, or another statement stands

@@ -7,7 +7,7 @@ use Rattle.floyd_cparse_trees.specs.declared.types.Declarator as d
 use Rattle.floyd_elab_names.specs.declared.meaning.Meaning.{Meaning}
 use Rattle.floyd_elab_names.specs.declared.meaning.Meaning.TheVariants as m
 use Rattle.floyd_elab_names.specs.Scopes.{Scopes, meaning_of}
-use Rattle.floyd_elab_names.specs.Types.{array_of, decayed}
+use Rattle.floyd_elab_names.specs.Types.{array_of, decay}
 use Rattle.floyd_elab_names.specs.Declarators.{pointers, number_in}
 
 -- the type that a typedef name stands for
@@ -38,7 +38,7 @@ module _ (scopes : Scopes) where
     pub parameters : {m : _} → d.Row_of-Parameter m → Option (List CType)
     parameters d.end_of-Parameter = Some []
     parameters (d.more_of-Parameter constant first d rest) =
-        option_and_then (λ t. option_and_then (λ u. option_map (λ us. decayed u ∷ us) (parameters rest)) (made t d)) (base first)
+        option_and_then (λ t. option_and_then (λ u. option_map (λ us. decay u ∷ us) (parameters rest)) (made t d)) (base first)
 
   abbrev pub type_named : TypeName → Option CType
   type_named n = option_and_then (λ t. made t n.declarator) (base n.specifiers.base)

@@ -4,6 +4,7 @@
 mod laws;
 
 pub use laws::{
-    allowed_temporaries_hold_numbers, drawn_names_are_apart, expressions_keep_their_meaning,
-    memory_is_read_by_pulls, runs_are_steps, straight_expressions_keep_their_meaning,
+    allowed_temporaries_hold_numbers, distinct_variables_are_distinct_places,
+    drawn_names_are_apart, expressions_keep_their_meaning, memory_is_read_by_pulls, runs_are_steps,
+    straight_expressions_keep_their_meaning,
 };

@@ -15,11 +15,12 @@ use Rattle.floyd_cparse_trees.specs.declared.types.FieldDeclaration.{FieldDeclar
 use Rattle.floyd_cparse_trees.specs.declared.types.Identifier.{Identifier}
 use Rattle.floyd_elab_names.specs.declared.tags.Tags.{Tags}
 use Rattle.floyd_elab_names.specs.Refusals.{Site, site_of, left_out, ill_typed, redeclared, undeclared}
-use Rattle.floyd_elab_names.specs.Doing.{followed, unless, or_refuse, changed, in_turn}
+use Rattle.floyd_elab_names.specs.Refusing.{and_then, unless, or_refuse, modify, in_turn}
 use Rattle.floyd_elab_names.specs.Scopes.{Scopes, meaning_of, is_among}
-use Rattle.floyd_elab_names.specs.Types.{decayed, is_object_within, is_object_type, is_parameter_type}
-use Rattle.floyd_elab_names.specs.Declarators.{name_of, name_site, limit_site, has_sizes, type_meant, unless_among, name_or_none, may_have, complete, field_declared, parameter_declared, field_after, fields_after, parameter_after, field_names, base_type, made_by, parameter_rows, field_rows, declarator_rows, declared_fields}
-use Rattle.floyd_elab_names.specs.Stored.{IsStored, AllStored}
+use Rattle.floyd_elab_names.specs.Types.{decay, is_object_within, is_object_type, is_parameter_type}
+use Rattle.floyd_elab_names.specs.Declarators.{name_of, name_site, limit_site, has_sizes, typedef_type, unless_among, name_or_none, may_have, begin_fields, complete, new_field, new_parameter, field_after, fields_after, parameter_after, field_names, base_type, made_by, parameter_rows, field_rows, declarator_rows}
+use Rattle.floyd_elab_names.specs.DeclaratorClauses.{add_fields}
+use Rattle.floyd_elab_names.specs.StoredClauses.{IsStored, AllStored}
 use Rattle.floyd_elab_names.proofs.SpecifierLemmas.{rows_are}
 use Rattle.floyd_elab_names.proofs.StoredLemmas.{stored_object, all_stay, one_more}
 
@@ -164,13 +165,18 @@ module _ {A : Type 0} where
   refused_grows refusal (Some a) s = later_same s.structs
 
 module _ {A B : Type 0} where
-  then_grown : (s : Tags) (r : Result (A × Tags) Refusal) (next : A → Tags → Result (B × Tags) Refusal) → Grown s r → ((a : A) (t : Tags) → Grown t (next a t)) → Grown s (followed r next)
+  then_grown : (s : Tags) (r : Result (A × Tags) Refusal) (next : A → Tags → Result (B × Tags) Refusal) → Grown s r → ((a : A) (t : Tags) → Grown t (next a t)) → Grown s (and_then r next)
   then_grown s (Ok r) next g more = grown_from s r.1 g (next r.0 r.1) (more r.0 r.1)
   then_grown s (Err e) next g more = tt
 
 unless_grows : (refusal : Refusal) (b : Bool) (s : Tags) → Grown s (unless refusal b s)
 unless_grows refusal true s = later_same s.structs
 unless_grows refusal false s = tt
+
+begin_grows : (tag : Identifier) (s : Tags) → Grown s (begin_fields tag s)
+begin_grows tag s =
+    let t : Tags = record { structs = declared s.structs tag.name; completed = s.completed } in
+    grown_from s t (later_declared tag.name s.structs) _ (unless_grows (redeclared tag) (not (is_complete t.structs tag.name)) t)
 
 among_grows : (names : List (List ℕ)) (o : Option Identifier) (s : Tags) → Grown s (unless_among names o s)
 among_grows names None s = later_same s.structs
@@ -183,14 +189,14 @@ complete_grows tag fields s = by (may_have fields) (is_complete s.structs tag.na
     after t = record { structs = completed t.structs tag.name fields; completed = t.completed ++ tag ∷ [] }
 
     by : (b c : Bool) → is_complete s.structs tag.name ≡ c
-        → Grown s (followed (unless (left_out (site_of tag)) b s) (λ u s1. followed (unless (redeclared tag) (not c) s1) (λ v s2. changed after s2)))
+        → Grown s (and_then (unless (left_out (site_of tag)) b s) (λ u s1. and_then (unless (redeclared tag) (not c) s1) (λ v s2. modify after s2)))
     by true true e = tt
     by true false e = later_completed tag.name fields s.structs e
     by false c e = tt
 
-parameter_grows : (site : Site) (names : List (List ℕ)) (d : d.Declarator) (t : CType) (s : Tags) → Grown s (parameter_declared site names d t s)
+parameter_grows : (site : Site) (names : List (List ℕ)) (d : d.Declarator) (t : CType) (s : Tags) → Grown s (new_parameter site names d t s)
 parameter_grows site names d t s =
-    then_grown s (unless (left_out (limit_site site d)) (is_object_within s.structs (decayed t)) s) _ (unless_grows _ _ s)
+    then_grown s (unless (left_out (limit_site site d)) (is_object_within s.structs (decay t)) s) _ (unless_grows _ _ s)
     (λ u s1. then_grown s1 (unless (ill_typed (name_site site d).place) (has_sizes d && is_parameter_type s.structs t) s1) _ (unless_grows _ _ s1)
     (λ v s2. then_grown s2 (unless_among names (name_of d) s2) _ (among_grows names (name_of d) s2) (λ w s3. later_same s3.structs)))
 
@@ -209,12 +215,12 @@ fielded_from s t later (Ok r) f = (later_then s.structs t.structs r.1.structs la
 fielded_from s t later (Err e) f = tt
 
 then_fielded : {A : Type 0} (s : Tags) (r : Result (A × Tags) Refusal) (next : A → Tags → Result (List Field × Tags) Refusal) → Grown s r
-    → ((a : A) (t : Tags) → Later s.structs t.structs → Fielded t (next a t)) → Fielded s (followed r next)
+    → ((a : A) (t : Tags) → Later s.structs t.structs → Fielded t (next a t)) → Fielded s (and_then r next)
 then_fielded s (Ok r) next g more = fielded_from s r.1 g (next r.0 r.1) (more r.0 r.1 g)
 then_fielded s (Err e) next g more = tt
 
 fielded_then : (s : Tags) (r : Result (List Field × Tags) Refusal) (next : List Field → Tags → Result (List Field × Tags) Refusal) → Fielded s r
-    → ((fields : List Field) (t : Tags) → AllStored t.structs fields → Fielded t (next fields t)) → Fielded s (followed r next)
+    → ((fields : List Field) (t : Tags) → AllStored t.structs fields → Fielded t (next fields t)) → Fielded s (and_then r next)
 fielded_then s (Ok r) next f more = fielded_from s r.1 f.0 (next r.0 r.1) (more r.0 r.1 f.1)
 fielded_then s (Err e) next f more = tt
 
@@ -223,24 +229,24 @@ abbrev OneStored : Tags → Result (Field × Tags) Refusal → Type 0
 OneStored s (Ok r) = (r.1 ≡ s) × IsStored s.structs r.0.ty
 OneStored s (Err e) = Unit {0}
 
-one_stored : (site : Site) (names : List (List ℕ)) (d : d.Declarator) (t : CType) (s : Tags) → OneStored s (field_declared site names d t s)
+one_stored : (site : Site) (names : List (List ℕ)) (d : d.Declarator) (t : CType) (s : Tags) → OneStored s (new_field site names d t s)
 one_stored site names d t s = by (is_object_within s.structs t) (is_object_type s.structs t) refl refl
   where
-    last : (name : List ℕ) (o : Option Identifier) → IsStored s.structs t → OneStored s (followed (unless_among names o s) (λ u s1. Ok (record { name = name; ty = t }, s1)))
+    last : (name : List ℕ) (o : Option Identifier) → IsStored s.structs t → OneStored s (and_then (unless_among names o s) (λ u s1. Ok (record { name = name; ty = t }, s1)))
     last name None stored = (refl, stored)
     last name (Some i) stored = at (not (is_among i.name names))
       where
-        at : (b : Bool) → OneStored s (followed (unless (redeclared i) b s) (λ u s1. Ok (record { name = name; ty = t }, s1)))
+        at : (b : Bool) → OneStored s (and_then (unless (redeclared i) b s) (λ u s1. Ok (record { name = name; ty = t }, s1)))
         at true = (refl, stored)
         at false = tt
 
     by : (b c : Bool) → is_object_within s.structs t ≡ b → is_object_type s.structs t ≡ c
-        → OneStored s (followed (unless (left_out (limit_site site d)) b s) (λ u s1. followed (unless (ill_typed (name_site site d).place) c s1) (λ v s2. followed (unless_among names (name_of d) s2) (λ w s3. Ok (record { name = name_or_none (name_of d); ty = t }, s3)))))
+        → OneStored s (and_then (unless (left_out (limit_site site d)) b s) (λ u s1. and_then (unless (ill_typed (name_site site d).place) c s1) (λ v s2. and_then (unless_among names (name_of d) s2) (λ w s3. Ok (record { name = name_or_none (name_of d); ty = t }, s3)))))
     by true true e f = last (name_or_none (name_of d)) (name_of d) (stored_object s.structs t e f)
     by true false e f = tt
     by false c e f = tt
 
-field_last : (s : Tags) (fields : List Field) (r : Result (Field × Tags) Refusal) → OneStored s r → AllStored s.structs fields → Fielded s (followed r (λ field s1. Ok (fields ++ field ∷ [], s1)))
+field_last : (s : Tags) (fields : List Field) (r : Result (Field × Tags) Refusal) → OneStored s r → AllStored s.structs fields → Fielded s (and_then r (λ field s1. Ok (fields ++ field ∷ [], s1)))
 field_last s fields (Ok r) one all =
     subst (λ (t : Tags). Later s.structs t.structs × AllStored t.structs (fields ++ r.0 ∷ [])) (sym one.0) (later_same s.structs, one_more s.structs fields r.0 all one.1)
 field_last s fields (Err e) one all = tt
@@ -252,11 +258,10 @@ module _ (scopes : Scopes) where
     base_grows site (b.Int k) s = later_same s.structs
     base_grows site (b.Struct tag) s = later_declared tag.name s.structs
     base_grows site (b.StructWith' tag shape rows) s =
-        let t : Tags = record { structs = declared s.structs tag.name; completed = s.completed } in
-        grown_from s t (later_declared tag.name s.structs) _
-        (then_grown t (in_turn (field_rows scopes site rows) [] t) _ (forget t (in_turn (field_rows scopes site rows) [] t) (fields_grow site rows [] t tt))
+        then_grown s (begin_fields tag s) _ (begin_grows tag s)
+        (λ begun t. then_grown t (in_turn (field_rows scopes site rows) [] t) _ (forget t (in_turn (field_rows scopes site rows) [] t) (fields_grow site rows [] t tt))
         (λ fields t1. then_grown t1 (complete tag fields t1) _ (complete_grows tag fields t1) (λ u t2. later_same t2.structs)))
-    base_grows site (b.Typedef i) s = refused_grows (undeclared i) (type_meant (meaning_of scopes i.name)) s
+    base_grows site (b.Typedef i) s = refused_grows (undeclared i) (typedef_type (meaning_of scopes i.name)) s
 
     made_grows : (site : Site) (d : d.Declarator) (s : Tags) → Grown s (made_by scopes site d s)
     made_grows site (d.Name i) s = later_same s.structs
@@ -276,7 +281,7 @@ module _ (scopes : Scopes) where
         then_grown s (parameter_after site d (base_type scopes site base) (made_by scopes (name_site site d) d) ps s) (in_turn (parameter_rows scopes site rest))
         (then_grown s (base_type scopes site base s) _ (base_grows site base s)
         (λ t s1. then_grown s1 (made_by scopes (name_site site d) d s1) _ (made_grows (name_site site d) d s1)
-        (λ make s2. then_grown s2 (parameter_declared site (field_names ps) d (make t) s2) _ (parameter_grows site (field_names ps) d (make t) s2) (λ p s3. later_same s3.structs))))
+        (λ make s2. then_grown s2 (new_parameter site (field_names ps) d (make t) s2) _ (parameter_grows site (field_names ps) d (make t) s2) (λ p s3. later_same s3.structs))))
         (λ more s1. parameters_grow site rest more s1)
 
     fields_grow : {m : _} (site : Site) (row : b.Row_of-FieldDeclaration m) (fields : List Field) (s : Tags) → AllStored s.structs fields → Fielded s (in_turn (field_rows scopes site row) fields s)
@@ -292,11 +297,11 @@ module _ (scopes : Scopes) where
     declarators_grow site t (d.more_of-Declarator d rest) fields s all =
         fielded_then s (field_after site d (made_by scopes (name_site site d) d) t fields s) (in_turn (declarator_rows scopes site t rest))
         (then_fielded s (made_by scopes (name_site site d) d s) _ (made_grows (name_site site d) d s)
-        (λ make s1 later. field_last s1 fields (field_declared site (field_names fields) d (make t) s1) (one_stored site (field_names fields) d (make t) s1)
+        (λ make s1 later. field_last s1 fields (new_field site (field_names fields) d (make t) s1) (one_stored site (field_names fields) d (make t) s1)
         (all_stay s.structs s1.structs later.grows fields all)))
         (λ more s1 all. declarators_grow site t rest more s1 all)
 
-  pub fields_ready : (site : Site) (rows : List FieldDeclaration) (s : Tags) (fields : List Field) (t : Tags) → in_turn (map (declared_fields scopes site) rows) [] s ≡ Ok (fields, t)
+  pub fields_ready : (site : Site) (rows : List FieldDeclaration) (s : Tags) (fields : List Field) (t : Tags) → in_turn (map (add_fields scopes site) rows) [] s ≡ Ok (fields, t)
       → Later s.structs t.structs × AllStored t.structs fields
   fields_ready site rows s fields t e =
       subst (Fielded s) (ap (λ steps. in_turn steps [] s) (rows_are scopes site rows) ∙ e) (fields_grow site (hidden-the_row-FieldDeclaration-1 rows) [] s tt)

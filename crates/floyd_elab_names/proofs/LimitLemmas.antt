@@ -8,7 +8,7 @@ use Rattle.floyd_ctypes.specs.declared.ctype.CType.{CType, Void, Int, Pointer, A
 use Rattle.floyd_ctypes.specs.declared.ctype.CType.TheBlock.{shape-the_row-CType-0, hidden-the_row-CType-0, hidden-the_row-CType-1, items_hidden-the_row-CType-1}
 use Rattle.floyd_ctypes.specs.Layout.{layout, within_limit, arrays_fit, type_fits, repeated}
 use Rattle.floyd_ctypes.specs.Structs.{Structs}
-use Rattle.floyd_elab_names.specs.Lists.{most_nesting, each_within}
+use Rattle.floyd_elab_names.specs.ListClauses.{most_nesting, each_within}
 use Rattle.floyd_elab_names.specs.Types.{nesting, nestings, arrays_within, all_arrays_within, is_passed, has_size}
 
 -- Nesting.

@@ -9,8 +9,8 @@ use Rattle.floyd_elab_names.specs.declared.meaning.Meaning.{Meaning}
 use Rattle.floyd_elab_names.specs.declared.names.Seen.{Seen}
 use Rattle.floyd_elab_names.specs.declared.names.Change.{Change}
 use Rattle.floyd_elab_names.specs.declared.names.Change.TheVariants.{Entered, Declared}
-use Rattle.floyd_elab_names.specs.Scopes.{Scope, Scopes, meaning_of, left, with_meaning, names_in, is_among}
-use Rattle.floyd_elab_names.specs.Changes.{after, after_all, seen_in, is_new, Keeps, KeepAll, IsKept}
+use Rattle.floyd_elab_names.specs.Scopes.{Scope, Scopes, meaning_of, leave, with_meaning, names_in, is_among}
+use Rattle.floyd_elab_names.specs.ChangeClauses.{after, after_all, seen_in, is_new, Keeps, KeepAll, IsKept}
 
 -- Changes at the end.
 
@@ -278,16 +278,16 @@ module _ (cs : List Change) (visible : List ℕ → Option Seen) (depth : ℕ) (
 
 -- The scopes outside stay.
 
-pub left_inner : (cs all : List Change) → all ≡ cs ++ Entered ∷ [] → left (after_all [] all) ≡ after_all [] cs
-left_inner cs all is = ap (λ xs. left (after_all [] xs)) is ∙ ap left (after_last [] cs Entered)
+pub left_inner : (cs all : List Change) → all ≡ cs ++ Entered ∷ [] → leave (after_all [] all) ≡ after_all [] cs
+left_inner cs all is = ap (λ xs. leave (after_all [] xs)) is ∙ ap leave (after_last [] cs Entered)
 
 pub declared_last : (cs all : List Change) (scopes : Scopes) (name : List ℕ) (m : Meaning) (before : Option Seen) → all ≡ cs ++ Declared name m before ∷ [] → after_all [] cs ≡ scopes → after_all [] all ≡ with_meaning name m scopes
 declared_last cs all scopes name m before is view = ap (after_all []) is ∙ after_last [] cs (Declared name m before) ∙ ap (with_meaning name m) view
 
-same_outer : (scopes : Scopes) (name : List ℕ) (m : Meaning) → left (with_meaning name m scopes) ≡ left scopes
+same_outer : (scopes : Scopes) (name : List ℕ) (m : Meaning) → leave (with_meaning name m scopes) ≡ leave scopes
 same_outer [] name m = refl
 same_outer (scope ∷ outer) name m = refl
 
-pub left_same : (cs all : List Change) (name : List ℕ) (m : Meaning) (before : Option Seen) → all ≡ cs ++ Declared name m before ∷ [] → left (after_all [] all) ≡ left (after_all [] cs)
+pub left_same : (cs all : List Change) (name : List ℕ) (m : Meaning) (before : Option Seen) → all ≡ cs ++ Declared name m before ∷ [] → leave (after_all [] all) ≡ leave (after_all [] cs)
 left_same cs all name m before is =
-    ap (λ xs. left (after_all [] xs)) is ∙ ap left (after_last [] cs (Declared name m before)) ∙ same_outer (after_all [] cs) name m
+    ap (λ xs. leave (after_all [] xs)) is ∙ ap leave (after_last [] cs (Declared name m before)) ∙ same_outer (after_all [] cs) name m

@@ -8,7 +8,7 @@ use Rattle.floyd_ctypes.specs.Define.{all_sized, refusal}
 use Rattle.floyd_ctypes.specs.Layout.{layout, type_fits, arrays_fit, within_limit}
 use Rattle.floyd_ctypes.specs.Structs.{Structs, is_complete}
 use Rattle.floyd_ctypes.proofs.Growth.{Grows, layouts_stay, type_stays}
-use Rattle.floyd_elab_names.specs.Stored.{IsStored, AllStored}
+use Rattle.floyd_elab_names.specs.StoredClauses.{IsStored, AllStored}
 use Rattle.floyd_elab_names.specs.Types.{is_within, is_object_within, is_object_type, has_size, returns_well}
 
 pub each_fits : (structs : Structs) (fields : List Field) → AllStored structs fields → All (λ (f : Field). IsTrue (type_fits structs f.ty)) fields

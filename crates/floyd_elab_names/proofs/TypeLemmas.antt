@@ -3,7 +3,7 @@ use Rattle.std.proofs.Common.{◌≡◌, ℕ, ◌&&◌, not, Some, List, refl}
 use denote.Hole.Carrier.{hidden}
 use Rattle.floyd_ctypes.specs.declared.ctype.CType.{CType, Pointer, Array, Function}
 use Rattle.floyd_ctypes.specs.declared.ctype.CType.TheBlock.{shape-the_row-CType-0, hidden-the_row-CType-0}
-use Rattle.floyd_elab_names.specs.Types.{pointer_to, array_of, decayed, pointee, is_aggregate, returns_well}
+use Rattle.floyd_elab_names.specs.Types.{pointer_to, array_of, decay, pointee, is_aggregate, returns_well}
 
 pub pointer_is : (t : CType) → Pointer t ≡ pointer_to t
 unfolding shape-the_row-CType-0 hidden-the_row-CType-0 hidden
@@ -13,9 +13,9 @@ pub array_is : (t : CType) (n : ℕ) → Array t n ≡ array_of t n
 unfolding shape-the_row-CType-0 hidden-the_row-CType-0 hidden
 array_is t n = refl
 
-pub decayed-array : (t : CType) (n : ℕ) → decayed (Array t n) ≡ Pointer t
+pub decay-array : (t : CType) (n : ℕ) → decay (Array t n) ≡ Pointer t
 unfolding shape-the_row-CType-0 hidden-the_row-CType-0 hidden
-decayed-array t n = refl
+decay-array t n = refl
 
 pub pointee-pointer : (t : CType) → pointee (Pointer t) ≡ Some t
 unfolding shape-the_row-CType-0 hidden-the_row-CType-0 hidden

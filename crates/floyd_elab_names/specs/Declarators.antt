@@ -7,10 +7,8 @@ use Rattle.floyd_ctypes.specs.declared.field.Field.{Field}
 use Rattle.floyd_ctypes.specs.Structs.{is_complete}
 use Rattle.floyd_ctypes.specs.Define.{declared, completed}
 use Rattle.floyd_text.specs.declared.place.Place.{Place}
-use Rattle.floyd_cparse_trees.specs.declared.types.FieldDeclaration.{FieldDeclaration}
 use Rattle.floyd_cparse_trees.specs.declared.types.Identifier.{Identifier}
 use Rattle.floyd_cparse_trees.specs.declared.types.Literal.{Literal}
-use Rattle.floyd_cparse_trees.specs.declared.types.Parameter.{Parameter}
 use Rattle.floyd_cparse_trees.specs.declared.types.Star.{Star}
 use Rattle.floyd_cparse_trees.specs.declared.types.TypeName.{TypeName}
 use Rattle.floyd_cparse_trees.specs.declared.types.Base as b
@@ -18,10 +16,10 @@ use Rattle.floyd_cparse_trees.specs.declared.types.Declarator as d
 use Rattle.floyd_elab_names.specs.declared.meaning.Meaning.{Meaning}
 use Rattle.floyd_elab_names.specs.declared.meaning.Meaning.TheVariants as m
 use Rattle.floyd_elab_names.specs.Refusals.{Site, site_of, left_out, ill_typed, undeclared, redeclared}
-use Rattle.floyd_elab_names.specs.Doing.{◌>>=◌, ◌>>◌, pure, unless, or_refuse, changed, in_turn}
+use Rattle.floyd_elab_names.specs.Refusing.{◌>>=◌, ◌>>◌, pure, unless, or_refuse, modify, in_turn}
 use Rattle.floyd_elab_names.specs.Typing.{Typing, the_structs}
 use Rattle.floyd_elab_names.specs.Scopes.{Scopes, meaning_of, is_among}
-use Rattle.floyd_elab_names.specs.Types.{pointer_to, array_of, decayed, is_within, is_object_within, returns_well, is_object_type, is_parameter_type}
+use Rattle.floyd_elab_names.specs.Types.{pointer_to, array_of, decay, is_within, is_object_within, returns_well, is_object_type, is_parameter_type}
 
 -- The name that a declarator declares.
 abbrev pub name_of : d.Declarator → Option Identifier
@@ -98,9 +96,17 @@ abbrev pub pointers : ℕ → CType → CType
 pointers zero t = t
 pointers (suc stars) t = pointers stars (pointer_to t)
 
--- A struct's tag holds from its first mention, and is completed once.
+-- A struct's tag holds from its first mention.
 abbrev pub mention : Identifier → Typing (Unit {0})
-mention tag = changed (λ tags. record tags { structs = declared tags.structs tag.name })
+mention tag = modify (λ tags. record tags { structs = declared tags.structs tag.name })
+
+-- A struct is completed once. The `{` of a second time is refused, and so is the `}` where the struct's own fields have
+-- completed it.
+abbrev pub begin_fields : Identifier → Typing (Unit {0})
+begin_fields tag = do
+  mention tag
+  structs ← the_structs
+  unless (redeclared tag) (not (is_complete structs tag.name))
 
 -- A struct has a field. The grammar sees to that, and the size of a file to the other limit.
 abbrev pub may_have : List Field → Bool
@@ -111,20 +117,20 @@ complete tag fields = do
   structs ← the_structs
   unless (left_out (site_of tag)) (may_have fields)
   unless (redeclared tag) (not (is_complete structs tag.name))
-  changed (λ tags. record { structs = completed tags.structs tag.name fields; completed = tags.completed ++ tag ∷ [] })
+  modify (λ tags. record { structs = completed tags.structs tag.name fields; completed = tags.completed ++ tag ∷ [] })
 
 -- the struct of a tag with its fields
 abbrev pub struct_with : Identifier → Typing (List Field) → Typing CType
 struct_with tag body = do
-  mention tag
+  begin_fields tag
   fields ← body
   complete tag fields
   pure (Struct tag.name)
 
 -- a typedef name's type
-abbrev pub type_meant : Option Meaning → Option CType
-type_meant (Some (m.Type t constant)) = Some t
-type_meant meaning = None
+abbrev pub typedef_type : Option Meaning → Option CType
+typedef_type (Some (m.Type t constant)) = Some t
+typedef_type meaning = None
 
 -- refuses a name that is among these
 abbrev pub unless_among : List (List ℕ) → Option Identifier → Typing (Unit {0})
@@ -136,8 +142,8 @@ name_or_none None = []
 name_or_none (Some i) = i.name
 
 -- A field has a size.
-abbrev pub field_declared : Site → List (List ℕ) → d.Declarator → CType → Typing Field
-field_declared site names d t = do
+abbrev pub new_field : Site → List (List ℕ) → d.Declarator → CType → Typing Field
+new_field site names d t = do
   structs ← the_structs
   unless (left_out (limit_site site d)) (is_object_within structs t)
   unless (ill_typed (name_site site d).place) (is_object_type structs t)
@@ -146,13 +152,13 @@ field_declared site names d t = do
 
 -- A parameter is a field of its own kind: one that is an array is a pointer to its elements, and one that is a function is
 -- a pointer to it.
-abbrev pub parameter_declared : Site → List (List ℕ) → d.Declarator → CType → Typing Field
-parameter_declared site names d t = do
+abbrev pub new_parameter : Site → List (List ℕ) → d.Declarator → CType → Typing Field
+new_parameter site names d t = do
   structs ← the_structs
-  unless (left_out (limit_site site d)) (is_object_within structs (decayed t))
+  unless (left_out (limit_site site d)) (is_object_within structs (decay t))
   unless (ill_typed (name_site site d).place) (has_sizes d && is_parameter_type structs t)
   unless_among names (name_of d)
-  pure (record { name = name_or_none (name_of d); ty = decayed t })
+  pure (record { name = name_or_none (name_of d); ty = decay t })
 
 -- the names of fields, and their types
 abbrev pub field_names : List Field → List (List ℕ)
@@ -169,7 +175,7 @@ Adding = List Field → Typing (List Field)
 abbrev pub field_after : Site → d.Declarator → Typing (CType → CType) → CType → Adding
 field_after site d made t fields = do
   make ← made
-  field ← field_declared site (field_names fields) d (make t)
+  field ← new_field site (field_names fields) d (make t)
   pure (fields ++ field ∷ [])
 
 abbrev pub fields_after : Typing CType → (CType → List Adding) → Adding
@@ -181,7 +187,7 @@ abbrev pub parameter_after : Site → d.Declarator → Typing CType → Typing (
 parameter_after site d base made parameters = do
   t ← base
   make ← made
-  parameter ← parameter_declared site (field_names parameters) d (make t)
+  parameter ← new_parameter site (field_names parameters) d (make t)
   pure (parameters ++ parameter ∷ [])
 
 module _ (scopes : Scopes) where
@@ -194,7 +200,7 @@ module _ (scopes : Scopes) where
       mention tag
       pure (Struct tag.name)
     base_type site (b.StructWith' tag shape rows) = struct_with tag (in_turn (field_rows site rows) [])
-    base_type site (b.Typedef i) = or_refuse (undeclared i) (type_meant (meaning_of scopes i.name))
+    base_type site (b.Typedef i) = or_refuse (undeclared i) (typedef_type (meaning_of scopes i.name))
 
     -- A declarator makes of its specifiers' type that of its name.
     pub made_by : Site → d.Declarator → Typing (CType → CType)
@@ -245,13 +251,3 @@ module _ (scopes : Scopes) where
     unless (left_out (limit_site site n.declarator)) (is_within structs made)
     unless (ill_typed site.place) (returns_well made)
     pure made
-
-  -- The same parts of lists.
-  abbrev pub declared_field : Site → CType → d.Declarator → Adding
-  declared_field site t d = field_after site d (made_by (name_site site d) d) t
-
-  abbrev pub declared_fields : Site → FieldDeclaration → Adding
-  declared_fields site g = fields_after (base_type site g.specifiers.base) (λ t. map (declared_field site t) g.declarators)
-
-  abbrev pub declared_parameter : Site → Parameter → Adding
-  declared_parameter site p = parameter_after site p.declarator (base_type site p.specifiers.base) (made_by (name_site site p.declarator) p.declarator)

@@ -1,12 +1,13 @@
--- Definitions that contracts cite.
+-- Definitions, and then words that only private clauses use.
 pub mod Refusals
-pub mod Doing
+pub mod Refusing
 pub mod Typing
 pub mod Scopes
-pub mod Changes
 pub mod Types
 pub mod Declarators
-pub mod Lists
-pub mod Sites
-pub mod Stored
-pub mod Wraps
+pub mod ChangeClauses
+pub mod DeclaratorClauses
+pub mod ListClauses
+pub mod SiteClauses
+pub mod StoredClauses
+pub mod WrapClauses

@@ -19,13 +19,13 @@ meaning_of [] name = None
 meaning_of (scope ∷ scopes) name = option_or (lookup (bytes_eq name) scope) (meaning_of scopes name)
 
 -- inside a scope more, which has no names yet
-abbrev pub entered : Scopes → Scopes
-entered scopes = [] ∷ scopes
+abbrev pub enter : Scopes → Scopes
+enter scopes = [] ∷ scopes
 
 -- outside the innermost scope
-abbrev pub left : Scopes → Scopes
-left [] = []
-left (scope ∷ outer) = outer
+abbrev pub leave : Scopes → Scopes
+leave [] = []
+leave (scope ∷ outer) = outer
 
 -- with a name more in the innermost scope
 abbrev pub with_meaning : List ℕ → Meaning → Scopes → Scopes

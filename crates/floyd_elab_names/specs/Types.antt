@@ -10,15 +10,15 @@ use Rattle.floyd_ctypes.specs.Layout.{layout, within_limit, arrays_fit}
 -- Kinds of integers.
 
 -- kinds below int become int
-abbrev pub promoted : IntKind → IntKind
-promoted I8 = I32
-promoted U8 = I32
-promoted I16 = I32
-promoted U16 = I32
-promoted I32 = I32
-promoted U32 = U32
-promoted I64 = I64
-promoted U64 = U64
+abbrev pub promote : IntKind → IntKind
+promote I8 = I32
+promote U8 = I32
+promote I16 = I32
+promote U16 = I32
+promote I32 = I32
+promote U32 = U32
+promote I64 = I64
+promote U64 = U64
 
 -- the order of the promoted kinds
 abbrev pub rank : IntKind → ℕ
@@ -36,7 +36,7 @@ later a b = if nat_le (rank a) (rank b) then b else a
 
 -- the kind of both operands: the later of the two promoted kinds
 abbrev pub usual : IntKind → IntKind → IntKind
-usual a b = later (promoted a) (promoted b)
+usual a b = later (promote a) (promote b)
 
 abbrev pub same_sign : Bool → Bool → Bool
 same_sign true b = b
@@ -87,10 +87,10 @@ is_function (Function' shape ps p r) = true
 is_function t = false
 
 -- an array becomes a pointer to its first element, and a function a pointer to it
-abbrev pub decayed : CType → CType
-decayed (Array' p (more_of-CType t end_of-CType) n) = pointer_to t
-decayed (Function' shape ps p r) = pointer_to (Function' shape ps p r)
-decayed t = t
+abbrev pub decay : CType → CType
+decay (Array' p (more_of-CType t end_of-CType) n) = pointer_to t
+decay (Function' shape ps p r) = pointer_to (Function' shape ps p r)
+decay t = t
 
 -- what a pointer points to
 abbrev pub pointee : CType → Option CType

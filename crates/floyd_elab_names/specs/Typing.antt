@@ -1,10 +1,10 @@
 -- What typing keeps: the structs that the text mentions.
 use Rattle.floyd_ctypes.specs.Structs.{Structs}
 use Rattle.floyd_elab_names.specs.declared.tags.Tags.{Tags}
-use Rattle.floyd_elab_names.specs.Doing.{Doing, of_kept}
+use Rattle.floyd_elab_names.specs.Refusing.{Refusing, of_kept}
 
 abbrev pub Typing : Type 0 → Type 0
-Typing A = Doing Tags A
+Typing A = Refusing Tags A
 
 -- the structs so far
 abbrev pub the_structs : Typing Structs

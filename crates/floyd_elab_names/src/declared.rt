@@ -2,12 +2,14 @@
 ghost use Rattle.std.specs.Prelude.{◌≡◌, ◌&&◌, Some, IsTrue, IfOk, OnOk};
 ghost use Rattle.floyd_ctypes.specs.Structs.{has_tag};
 ghost use Rattle.floyd_ctypes.specs.Define.{declared};
-ghost use Rattle.floyd_elab_names.specs.Doing.{GivesWith};
+ghost use Rattle.floyd_ctypes.specs.declared.define.DefineStop.TheVariants.{Incomplete};
+ghost use Rattle.floyd_elab_names.specs.Refusing.{GivesWith};
+ghost use Rattle.floyd_elab_names.specs.StoredClauses.{halt_at as halt_at_lem};
 ghost use Rattle.floyd_elab_names.specs.Scopes.{meaning_of};
-ghost use Rattle.floyd_elab_names.specs.Declarators.{field_names, type_meant as type_meant_lem, unless_among as unless_among_lem, may_have as may_have_lem, complete as complete_lem, field_declared as field_declared_lem, parameter_declared as parameter_declared_lem, name_of as name_of_lem};
+ghost use Rattle.floyd_elab_names.specs.Declarators.{field_names, typedef_type as type_meant_lem, unless_among as unless_among_lem, may_have as may_have_lem, begin_fields as begin_fields_lem, complete as complete_lem, new_field as field_declared_lem, new_parameter as parameter_declared_lem, name_of as name_of_lem};
 ghost use Rattle.floyd_elab_names.specs.Declarators.{has_sizes as has_sizes_lem};
 ghost use Rattle.floyd_elab_names.specs.Types.{is_parameter_type as is_parameter_type_lem};
-ghost use Rattle.floyd_elab_names.specs.Stored.{AllStored};
+ghost use Rattle.floyd_elab_names.specs.StoredClauses.{AllStored};
 
 use crate::declarators::{has_sizes, limit_site, name_of, name_or_none, name_site};
 use crate::fields::Fields;
@@ -17,7 +19,7 @@ use crate::names::Names;
 use crate::refusals::{ill_typed, left_out, redeclared};
 use crate::site::Site;
 use crate::tags::Tags;
-use crate::types::decayed;
+use crate::types::decay;
 use floyd_cparse_trees::{Declarator, Identifier};
 use floyd_ctypes::{CType, DefineStop, Field, FieldList};
 use floyd_text::Halt;
@@ -30,8 +32,19 @@ pub(crate) fn mention(tags: &mut Tags, tag: &Identifier) -> Result<(), AllocErro
     tags.structs.declare(&tag.name)
 }
 
+/// A struct's fields begin. Its tag holds from there, and no fields came before.
+pub(crate) fn begin_fields(tags: &mut Tags, tag: &Identifier) -> Result<(), Halt>
+    ensures { GivesWith (λ u. u) result tags.new (begin_fields_lem tag.now tags.old) }
+{
+    mention(tags, tag)?;
+    if tags.structs.is_complete(&tag.name) {
+        return Err(Halt::Refused(redeclared(tag)?));
+    }
+    Ok(())
+}
+
 /// The type that a typedef name stands for.
-pub(crate) fn type_meant(
+pub(crate) fn typedef_type(
     alloc: Global,
     names: &Names,
     i: &Identifier,
@@ -69,7 +82,7 @@ fn unless_among(tags: &Tags, fields: &Fields, d: &Declarator) -> Result<(), Halt
 }
 
 /// The field of that declarator and type, behind these.
-pub(crate) fn field_declared(
+pub(crate) fn new_field(
     alloc: Global,
     tags: &Tags,
     site: &Site,
@@ -93,7 +106,7 @@ pub(crate) fn field_declared(
 }
 
 /// The parameter of that declarator and type, behind these.
-pub(crate) fn parameter_declared(
+pub(crate) fn new_parameter(
     alloc: Global,
     tags: &Tags,
     site: &Site,
@@ -103,7 +116,7 @@ pub(crate) fn parameter_declared(
 ) -> Result<Field, Halt>
     ensures { GivesWith (λ f. f) result tags.now (parameter_declared_lem site.now (field_names parameters.now) d.now t.now tags.now) }
 {
-    let ty = decayed(alloc, t)?;
+    let ty = decay(alloc, t)?;
     if !is_object_within(&tags.structs, &ty) {
         return Err(Halt::Refused(left_out(alloc, &limit_site(site, d)?)?));
     }
@@ -130,6 +143,18 @@ fn may_have(fields: &FieldList) -> bool
     !fields.is_empty() && fields.len() < 1 << 31
 }
 
+/// What stops the completion of a struct whose fields have sizes.
+fn halt_at(tag: &Identifier, stop: &DefineStop) -> Result<Halt, AllocError>
+    requires { stop.now ≡ Incomplete → ⊥ }
+    ensures { IfOk result (λ h. h ≡ halt_at_lem tag.now stop.now) }
+{
+    match stop {
+        DefineStop::Again => Ok(Halt::Refused(redeclared(tag)?)),
+        DefineStop::Incomplete => unreachable!(),
+        DefineStop::Memory => Ok(Halt::Memory),
+    }
+}
+
 /// Completes the struct of the tag with these fields.
 pub(crate) fn complete(
     alloc: Global,
@@ -144,11 +169,8 @@ pub(crate) fn complete(
     if !may_have(&fields) {
         return Err(Halt::Refused(left_out(alloc, &Site::of(tag)?)?));
     }
-    match tags.structs.complete(&tag.name, fields) {
-        Ok(()) => {}
-        Err(DefineStop::Again) => return Err(Halt::Refused(redeclared(tag)?)),
-        Err(DefineStop::Incomplete) => unreachable!(),
-        Err(DefineStop::Memory) => return Err(Halt::Memory),
+    if let Err(stop) = tags.structs.complete(&tag.name, fields) {
+        return Err(halt_at(tag, &stop)?);
     }
     tags.completed.push(Identifier {
         name: tag.name.share()?,

@@ -11,10 +11,17 @@ use std::alloc::{AllocError, Global};
 use std::marker::Model;
 
 /// Fields in order, whose names are found at once.
-#[derive(Drop)]
 pub(crate) struct Fields {
     items: FieldList,
     names: IndexSet<Name>,
+}
+
+impl Drop for Fields {
+    fn drop(self) {
+        let Fields { items, names } = self;
+        drop(items);
+        drop(names);
+    }
 }
 
 impl Model for Fields {
@@ -68,7 +75,8 @@ impl Fields {
     pub(crate) fn into_items(self) -> FieldList
         ensures { result ≡ self }
     {
-        let Fields { items, .. } = self;
+        let Fields { items, names } = self;
+        drop(names);
         items
     }
 

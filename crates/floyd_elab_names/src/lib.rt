@@ -23,6 +23,6 @@ pub use site::Site;
 pub use specifiers::{base_type, declarator_type, type_named};
 pub use tags::Tags;
 pub use types::{
-    decayed, has_size, is_aggregate, is_function, is_scalar, is_void, pointee, pointer_to,
+    decay, has_size, is_aggregate, is_function, is_scalar, is_void, pointee, pointer_to,
     returns_well, same_type, tag_of,
 };

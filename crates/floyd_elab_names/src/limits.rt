@@ -1,6 +1,6 @@
 //! Limits on types.
 ghost use Rattle.std.specs.Prelude.{◌≡◌, max, nat_le};
-ghost use Rattle.floyd_elab_names.specs.Lists.{most_nesting, each_within as each_within_lem};
+ghost use Rattle.floyd_elab_names.specs.ListClauses.{most_nesting, each_within as each_within_lem};
 ghost use Rattle.floyd_elab_names.specs.Types.{nesting, arrays_within as arrays_within_lem, is_within as is_within_lem, is_object_within as is_object_within_lem, is_object_type as is_object_type_lem, is_passed as is_passed_lem, is_parameter_type as is_parameter_type_lem};
 
 use crate::types::{has_size, returns_well};

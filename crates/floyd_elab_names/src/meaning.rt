@@ -12,7 +12,6 @@ pub enum Storage {
 }
 
 /// What a name stands for.
-#[derive(Drop)]
 pub enum Meaning {
     /// A type, and whether it is `const` at its top.
     Type {
@@ -26,4 +25,22 @@ pub enum Meaning {
         storage: Storage,
     },
     Function(CType),
+}
+
+impl Drop for Meaning {
+    fn drop(self) {
+        match self {
+            Meaning::Type { ctype, constant: _ } => drop(ctype),
+            Meaning::Variable {
+                called,
+                ctype,
+                storage,
+            } => {
+                drop(called);
+                drop(ctype);
+                drop(storage);
+            }
+            Meaning::Function(ctype) => drop(ctype),
+        }
+    }
 }

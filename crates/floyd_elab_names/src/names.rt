@@ -1,10 +1,11 @@
 //! The names that are in scope.
-ghost use Rattle.std.specs.Prelude.{◌≡◌, ◌++◌, ◌∷◌, [], ℕ, List, IfOk, OnOk, OnErr, Some, IsSome, OnSome, cond, bytes_eq};
+ghost use Rattle.std.specs.Prelude.{◌≡◌, ◌++◌, ◌∷◌, [], ℕ, List, IfOk, OnOk, OnErr, Some, IsSome, OnSome, MatchOption, cond, bytes_eq};
 ghost use Rattle.std.specs.Option.{option_copied};
 ghost use Rattle.indexmap.specs.IndexMap.{get};
-ghost use Rattle.floyd_elab_names.specs.declared.names.Change.TheVariants.{Declared};
-ghost use Rattle.floyd_elab_names.specs.Changes.{is_new as is_new_lem};
-ghost use Rattle.floyd_elab_names.specs.Scopes.{meaning_of as meaning_of_lem, entered, left, with_meaning, names_in, is_among};
+ghost use Rattle.floyd_elab_names.specs.declared.names.Change.TheVariants.{Entered, Declared};
+ghost use Rattle.floyd_elab_names.specs.declared.meaning.Meaning.{Meaning as Told};
+ghost use Rattle.floyd_elab_names.specs.ChangeClauses.{is_new as is_new_lem};
+ghost use Rattle.floyd_elab_names.specs.Scopes.{meaning_of as meaning_of_lem, enter, leave, with_meaning, names_in, is_among};
 
 use crate::meaning::Meaning;
 use floyd_text::{Name, Shared};
@@ -14,14 +15,19 @@ use std::alloc::{AllocError, Global};
 use std::marker::Model;
 
 /// What a name stands for, and how many scopes there were where it was declared.
-#[derive(Drop)]
 struct Seen {
     depth: usize,
     meaning: Shared<Meaning>,
 }
 
+impl Drop for Seen {
+    fn drop(self) {
+        let Seen { depth: _, meaning } = self;
+        drop(meaning);
+    }
+}
+
 /// A scope was entered, or a name was declared, which stood for something else before.
-#[derive(Drop)]
 enum Change {
     Entered,
     Declared {
@@ -31,12 +37,59 @@ enum Change {
     },
 }
 
+impl Drop for Change {
+    fn drop(self) {
+        match self {
+            Change::Entered => {}
+            Change::Declared {
+                name,
+                meaning,
+                before,
+            } => {
+                drop(name);
+                drop(meaning);
+                drop(before);
+            }
+        }
+    }
+}
+
+impl Change {
+    /// The name that was declared, and what it stood for before. None where a scope was entered.
+    fn into_declared(self) -> Option<(Name, Option<Seen>)>
+        ensures { MatchOption result (self ≡ Entered) (λ d. (m : Told) × (self ≡ Declared d.0 m d.1)) }
+    {
+        match self {
+            Change::Entered => None,
+            Change::Declared {
+                name,
+                meaning,
+                before,
+            } => {
+                drop(meaning);
+                Some((name, before))
+            }
+        }
+    }
+}
+
 /// The names that are in scope, and what each stands for. Contracts see the scopes, the innermost first.
-#[derive(Drop)]
 pub struct Names {
     changes: Items<Change>,
     visible: IndexMap<Name, Seen>,
     depth: usize,
+}
+
+impl Drop for Names {
+    fn drop(self) {
+        let Names {
+            changes,
+            visible,
+            depth: _,
+        } = self;
+        drop(changes);
+        drop(visible);
+    }
 }
 
 impl Model for Names {
@@ -50,7 +103,7 @@ impl Model for Names {
 
     ghost use Rattle.std.specs.Prelude.{[], bytes_eq};
     ghost use Rattle.indexmap.specs.IndexMap.{get};
-    ghost use Rattle.floyd_elab_names.specs.Changes.{after_all, IsKept};
+    ghost use Rattle.floyd_elab_names.specs.ChangeClauses.{after_all, IsKept};
 
     ghost view = { λ n. after_all [] n.changes };
 
@@ -96,7 +149,7 @@ impl Names {
 
     /// Goes into a scope, which has no names yet.
     pub fn enter(&mut self) -> Result<(), AllocError>
-        ensures ok { OnOk result (self.new ≡ entered self.old) }
+        ensures ok { OnOk result (self.new ≡ enter self.old) }
         ensures err { OnErr result (self.new ≡ self.old) }
     {
         self.changes.push(Change::Entered)?;
@@ -107,15 +160,15 @@ impl Names {
 
     /// Leaves the innermost scope. Its names stand for what they stood for before.
     pub fn leave(&mut self)
-        ensures { self.new ≡ left self.old }
+        ensures { self.new ≡ leave self.old }
     {
         'changes: while let Some(change) = self.changes.pop() {
-            match change {
-                Change::Entered => {
+            match change.into_declared() {
+                None => {
                     self.depth -= 1;
                     return;
                 }
-                Change::Declared { name, before, .. } => undo(&mut self.visible, name, before),
+                Some((name, before)) => undo(&mut self.visible, name, before),
             }
         }
     }
@@ -163,12 +216,12 @@ fn declaration(
     Ok(Change::Declared {
         name: name.share()?,
         meaning: meaning.share()?,
-        before: standing_for(visible, name)?,
+        before: current_meaning(visible, name)?,
     })
 }
 
 /// What the name stands for.
-fn standing_for(visible: &IndexMap<Name, Seen>, name: &Name) -> Result<Option<Seen>, AllocError>
+fn current_meaning(visible: &IndexMap<Name, Seen>, name: &Name) -> Result<Option<Seen>, AllocError>
     ensures { IfOk result (λ s. s ≡ get bytes_eq visible.now name.now) }
 {
     match visible.get(name) {

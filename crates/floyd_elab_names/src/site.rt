@@ -9,7 +9,6 @@ use floyd_text::{Name, Place};
 use std::alloc::{AllocError, Global};
 use std::marker::Model;
 
-#[derive(Drop)]
 enum Text {
     Parenthesis,
     Bracket,
@@ -19,11 +18,30 @@ enum Text {
     Name(Name),
 }
 
+impl Drop for Text {
+    fn drop(self) {
+        match self {
+            Text::Parenthesis => {}
+            Text::Bracket => {}
+            Text::Star => {}
+            Text::Ampersand => {}
+            Text::SizeOf => {}
+            Text::Name(name) => drop(name),
+        }
+    }
+}
+
 /// A token that a refusal may stand at. Contracts see its place and its text.
-#[derive(Drop)]
 pub struct Site {
     place: Place,
     text: Text,
+}
+
+impl Drop for Site {
+    fn drop(self) {
+        let Site { place: _, text } = self;
+        drop(text);
+    }
 }
 
 impl Model for Site {
@@ -31,7 +49,7 @@ impl Model for Site {
 
     ghost Value = { Site };
 
-    ghost use Rattle.floyd_elab_names.specs.Sites.{text_of};
+    ghost use Rattle.floyd_elab_names.specs.SiteClauses.{text_of};
 
     ghost view = { λ s. record { place = s.place; text = text_of s.text } };
 }

@@ -1,11 +1,12 @@
 //! The types that specifiers and declarators name. The nesting of the text bounds the depth of the calls.
 ghost use Rattle.std.specs.Prelude.{[], map};
-ghost use Rattle.floyd_elab_names.specs.Doing.{GivesWith, in_turn};
-ghost use Rattle.floyd_elab_names.specs.Wraps.{wrapped as wrapped_lem};
-ghost use Rattle.floyd_elab_names.specs.Declarators.{base_type as base_type_lem, made_by as made_by_lem, declarator_type as declarator_type_lem, type_named as type_named_lem, declared_field as declared_field_lem, declared_fields as declared_fields_lem, declared_parameter as declared_parameter_lem};
+ghost use Rattle.floyd_elab_names.specs.Refusing.{GivesWith, in_turn};
+ghost use Rattle.floyd_elab_names.specs.WrapClauses.{wrap_all as wrapped_lem};
+ghost use Rattle.floyd_elab_names.specs.Declarators.{base_type as base_type_lem, made_by as made_by_lem, declarator_type as declarator_type_lem, type_named as type_named_lem};
+ghost use Rattle.floyd_elab_names.specs.DeclaratorClauses.{add_field as declared_field_lem, add_fields as declared_fields_lem, add_parameter as declared_parameter_lem};
 
 use crate::declarators::{limit_site, name_site, number_in};
-use crate::declared::{complete, field_declared, mention, parameter_declared, type_meant};
+use crate::declared::{begin_fields, complete, mention, new_field, new_parameter, typedef_type};
 use crate::fields::Fields;
 use crate::limits::is_within;
 use crate::names::Names;
@@ -13,7 +14,7 @@ use crate::refusals::{ill_typed, left_out, undeclared};
 use crate::site::Site;
 use crate::tags::Tags;
 use crate::types::returns_well;
-use crate::wraps::{Wrap, wrapped};
+use crate::wraps::{Wrap, wrap_all};
 use floyd_cparse_trees::{Base, Declarator, FieldDeclaration, Parameter, TypeName};
 use floyd_ctypes::CType;
 use floyd_text::Halt;
@@ -39,12 +40,12 @@ pub fn base_type(
             Ok(CType::Struct(tag.name.share()?))
         }
         Base::StructWith(tag, rows) => {
-            mention(tags, tag)?;
+            begin_fields(tags, tag)?;
             let fields = all_fields(alloc, names, tags, site, rows.as_slice())?;
             complete(alloc, tags, tag, fields.into_items())?;
             Ok(CType::Struct(tag.name.share()?))
         }
-        Base::Typedef(i) => match type_meant(alloc, names, i)? {
+        Base::Typedef(i) => match typedef_type(alloc, names, i)? {
             Some(t) => Ok(t),
             None => Err(Halt::Refused(undeclared(i)?)),
         },
@@ -64,14 +65,14 @@ fn all_fields(
 {
     let mut fields = Fields::new(alloc);
     'rows: for row in rows {
-        fields = declared_fields(alloc, names, tags, site, fields, row)?;
+        fields = add_fields(alloc, names, tags, site, fields, row)?;
     }
     Ok(fields)
 }
 
 /// The fields of one base, behind these.
 #[cycle(declared)]
-fn declared_fields(
+fn add_fields(
     alloc: Global,
     names: &Names,
     tags: &mut Tags,
@@ -84,14 +85,14 @@ fn declared_fields(
     let t = base_type(alloc, names, tags, site, &row.specifiers.base)?;
     let mut fields = fields;
     'declarators: for d in row.declarators.as_slice() {
-        fields = declared_field(alloc, names, tags, site, fields, d, &t)?;
+        fields = add_field(alloc, names, tags, site, fields, d, &t)?;
     }
     Ok(fields)
 }
 
 /// A field of that base, behind these.
 #[cycle(declared)]
-fn declared_field(
+fn add_field(
     alloc: Global,
     names: &Names,
     tags: &mut Tags,
@@ -104,8 +105,8 @@ fn declared_field(
 {
     let inner = name_site(site, d)?;
     let wraps = made_by(alloc, names, tags, &inner, d)?;
-    let t = wrapped(alloc, wraps, base.share(alloc)?)?;
-    let field = field_declared(alloc, tags, site, &fields, d, t)?;
+    let t = wrap_all(alloc, wraps, base.share(alloc)?)?;
+    let field = new_field(alloc, tags, site, &fields, d, t)?;
     Ok(fields.with(field)?)
 }
 
@@ -159,14 +160,14 @@ fn all_parameters(
 {
     let mut all = Fields::new(alloc);
     'parameters: for p in parameters {
-        all = declared_parameter(alloc, names, tags, site, all, p)?;
+        all = add_parameter(alloc, names, tags, site, all, p)?;
     }
     Ok(all)
 }
 
 /// A parameter behind these.
 #[cycle(declared)]
-fn declared_parameter(
+fn add_parameter(
     alloc: Global,
     names: &Names,
     tags: &mut Tags,
@@ -180,8 +181,8 @@ fn declared_parameter(
     let base = base_type(alloc, names, tags, site, &p.specifiers.base)?;
     let inner = name_site(site, d)?;
     let wraps = made_by(alloc, names, tags, &inner, d)?;
-    let t = wrapped(alloc, wraps, base)?;
-    let parameter = parameter_declared(alloc, tags, site, &all, d, &t)?;
+    let t = wrap_all(alloc, wraps, base)?;
+    let parameter = new_parameter(alloc, tags, site, &all, d, &t)?;
     Ok(all.with(parameter)?)
 }
 
@@ -198,7 +199,7 @@ pub fn declarator_type(
 {
     let inner = name_site(site, d)?;
     let wraps = made_by(alloc, names, tags, &inner, d)?;
-    Ok(wrapped(alloc, wraps, t)?)
+    Ok(wrap_all(alloc, wraps, t)?)
 }
 
 /// The type that a cast or `sizeof` names. The token is the cast's parenthesis or `sizeof`.

@@ -1,6 +1,6 @@
 ghost use Rattle.std.specs.Prelude.{◌≡◌, IfOk};
 ghost use Rattle.std.specs.Option.{option_copied};
-ghost use Rattle.floyd_elab_names.specs.Types.{pointer_to as pointer_to_lem, same_type as same_type_lem, is_void as is_void_lem, is_function as is_function_lem, is_scalar as is_scalar_lem, decayed as decayed_lem, pointee as pointee_lem, tag_of as tag_of_lem, has_size as has_size_lem, is_aggregate as is_aggregate_lem, returns_well as returns_well_lem};
+ghost use Rattle.floyd_elab_names.specs.Types.{pointer_to as pointer_to_lem, same_type as same_type_lem, is_void as is_void_lem, is_function as is_function_lem, is_scalar as is_scalar_lem, decay as decayed_lem, pointee as pointee_lem, tag_of as tag_of_lem, has_size as has_size_lem, is_aggregate as is_aggregate_lem, returns_well as returns_well_lem};
 
 use floyd_ctypes::{CType, StructTable};
 use floyd_text::{Name, Shared};
@@ -50,7 +50,7 @@ pub fn is_aggregate(t: &CType) -> bool
 }
 
 /// The type of its value: an array becomes a pointer to its first element, and a function a pointer to it.
-pub fn decayed(alloc: Global, t: &CType) -> Result<CType, AllocError>
+pub fn decay(alloc: Global, t: &CType) -> Result<CType, AllocError>
     ensures { IfOk result (λ u. u ≡ decayed_lem t.now) }
 {
     match t {

@@ -2,7 +2,7 @@
 ghost use Rattle.std.specs.Prelude.{◌≡◌, IfOk};
 ghost use Rattle.floyd_elab_names.specs.Types.{array_of as array_of_lem};
 ghost use Rattle.floyd_elab_names.specs.Declarators.{pointers as pointers_lem};
-ghost use Rattle.floyd_elab_names.specs.Wraps.{around as around_lem, wrapped as wrapped_lem};
+ghost use Rattle.floyd_elab_names.specs.WrapClauses.{around as around_lem, wrap_all as wrapped_lem};
 
 use crate::types::pointer_to;
 use floyd_ctypes::{CType, TypeList};
@@ -11,33 +11,45 @@ use sqlite_items::Items;
 use std::alloc::{AllocError, Global};
 
 /// A part of a declarator: so many stars, an array of so many elements, or a function of parameters of these types.
-#[derive(Drop)]
 pub(crate) enum Wrap {
     Pointers(usize),
     Array(u64),
     Function(TypeList),
 }
 
+impl Drop for Wrap {
+    fn drop(self) {
+        match self {
+            Wrap::Pointers(_) => {}
+            Wrap::Array(_) => {}
+            Wrap::Function(types) => drop(types),
+        }
+    }
+}
+
 /// The type with all these around it, the last one first.
 #[tactic(auto, using(crate::proofs::WrapLemmas::wrapped_last))]
-pub(crate) fn wrapped(alloc: Global, wraps: Items<Wrap>, t: CType) -> Result<CType, AllocError>
+pub(crate) fn wrap_all(alloc: Global, wraps: Items<Wrap>, t: CType) -> Result<CType, AllocError>
     ensures { IfOk result (λ u. u ≡ wrapped_lem wraps t) }
 {
     let mut wraps = wraps;
     let mut t = t;
     'wraps: while let Some(wrap) = wraps.pop() {
-        t = around(alloc, wrap, t)?;
+        t = wrap.around(alloc, t)?;
     }
     Ok(t)
 }
 
-fn around(alloc: Global, wrap: Wrap, t: CType) -> Result<CType, AllocError>
-    ensures { IfOk result (λ u. u ≡ around_lem wrap t) }
-{
-    match wrap {
-        Wrap::Pointers(stars) => pointers(alloc, stars, t),
-        Wrap::Array(number) => array_of(alloc, t, number),
-        Wrap::Function(parameters) => Ok(CType::Function(parameters, Shared::new(alloc, t)?)),
+impl Wrap {
+    /// The type with this around it.
+    fn around(self, alloc: Global, t: CType) -> Result<CType, AllocError>
+        ensures { IfOk result (λ u. u ≡ around_lem self t) }
+    {
+        match self {
+            Wrap::Pointers(stars) => pointers(alloc, stars, t),
+            Wrap::Array(number) => array_of(alloc, t, number),
+            Wrap::Function(parameters) => Ok(CType::Function(parameters, Shared::new(alloc, t)?)),
+        }
     }
 }
 

@@ -7,48 +7,48 @@ use Rattle.floyd_text.specs.declared.refusal.Halt.{Halt}
 use Rattle.floyd_text.specs.Gives.{Stops}
 use Rattle.floyd_ctypes.specs.declared.ctype.CType.{CType}
 use Rattle.floyd_cparse_trees.specs.declared.expressions.CExpr.{CExpr}
-use Rattle.floyd_elab_names.specs.Doing.{followed, unless}
+use Rattle.floyd_elab_names.specs.Refusing.{and_then, unless}
 use Rattle.floyd_elab_names.specs.Refusals.{ill_typed}
 use Rattle.floyd_elab_names.specs.Scopes.{Scopes}
 use Rattle.floyd_elab_names.specs.Types.{is_void}
 use Rattle.floyd_ctyping.specs.Operators as o
-use Rattle.floyd_ctyping.specs.Expressions.{tested}
+use Rattle.floyd_ctyping.specs.Expressions.{check_test}
 use Rattle.floyd_clight.specs.declared.syntax.Expr.{Expr}
 use Rattle.floyd_clight.specs.declared.syntax.Stmt as s
 use Rattle.floyd_clight.specs.declared.syntax.Stmt.{Stmt}
 use Rattle.floyd_elab_expressions.specs.declared.progress.Progress.{Progress}
-use Rattle.floyd_elab_expressions.specs.Behind.{onto, appended}
+use Rattle.floyd_elab_expressions.specs.Behind.{onto, put_behind}
 use Rattle.floyd_elab_expressions.specs.Clight.{Translated, test_of, cast_into}
 use Rattle.floyd_elab_expressions.specs.Progress.{Elaborating, typing}
-use Rattle.floyd_elab_expressions.specs.Expressions.{valued}
+use Rattle.floyd_elab_expressions.specs.Expressions.{rvalue}
 use Rattle.floyd_elab_effects.specs.Effects.{right_side}
-use Rattle.floyd_elab_statements.specs.LocalParts.{beginning}
-use Rattle.floyd_elab_statements.specs.Statements.{test, loop_test, returned}
-use Rattle.floyd_elab_statements.specs.Walks.{judged, sent_back}
+use Rattle.floyd_elab_statements.specs.LocalClauses.{beginning}
+use Rattle.floyd_elab_statements.specs.Statements.{test, loop_test, return_statement}
+use Rattle.floyd_elab_statements.specs.WalkClauses.{judge_test, send_back}
 use Rattle.floyd_elab_statements.proofs.Steps.{goes, stops, stops_as}
 use Rattle.floyd_elab_statements.proofs.Walking.{beside_value, through_value, through_begun, judged_beside, judged_behind, pushed_behind}
 
 module _ (scopes : Scopes) (place : Place) (e : CExpr) (there : List Stmt) (p : Progress) where
-  test_is : beginning there (test scopes place e p) ≡ followed (onto there (valued scopes e p)) (judged place e)
-  test_is = beside_value there (valued scopes e p) (judged place e) (λ a q. judged_beside there a.before (typing (tested place a.operand) q) (test_of e a))
+  test_is : beginning there (test scopes place e p) ≡ and_then (onto there (rvalue scopes e p)) (judge_test place e)
+  test_is = beside_value there (rvalue scopes e p) (judge_test place e) (λ a q. judged_beside there a.before (typing (check_test place a.operand) q) (test_of e a))
 
-  pub test_unread : (h : Halt) → Stops h (onto there (valued scopes e p)) → Stops h (beginning there (test scopes place e p))
-  test_unread h e1 = stops_as h _ _ test_is (stops h (onto there (valued scopes e p)) (judged place e) e1)
+  pub test_unread : (h : Halt) → Stops h (onto there (rvalue scopes e p)) → Stops h (beginning there (test scopes place e p))
+  test_unread h e1 = stops_as h _ _ test_is (stops h (onto there (rvalue scopes e p)) (judge_test place e) e1)
 
-  pub test_read : (a : Translated) (q : Progress) → onto there (valued scopes e p) ≡ Ok (a, q) → beginning there (test scopes place e p) ≡ judged place e a q
-  test_read a q e1 = test_is ∙ goes (onto there (valued scopes e p)) (judged place e) a q e1
+  pub test_read : (a : Translated) (q : Progress) → onto there (rvalue scopes e p) ≡ Ok (a, q) → beginning there (test scopes place e p) ≡ judge_test place e a q
+  test_read a q e1 = test_is ∙ goes (onto there (rvalue scopes e p)) (judge_test place e) a q e1
 
   abbrev loop_end : List Stmt × Expr → Elaborating (List Stmt)
   loop_end t q = Ok (t.0 ++ s.If t.1 s.Skip s.Break ∷ [], q)
 
-  loop_test_is : appended there (loop_test scopes place e p) ≡ followed (beginning there (test scopes place e p)) loop_end
+  loop_test_is : put_behind there (loop_test scopes place e p) ≡ and_then (beginning there (test scopes place e p)) loop_end
   loop_test_is = through_begun there (test scopes place e p) loop_end loop_end (λ t q. pushed_behind there t.0 (s.If t.1 s.Skip s.Break) q)
 
-  pub loop_test_stops : (h : Halt) → Stops h (beginning there (test scopes place e p)) → Stops h (appended there (loop_test scopes place e p))
+  pub loop_test_stops : (h : Halt) → Stops h (beginning there (test scopes place e p)) → Stops h (put_behind there (loop_test scopes place e p))
   loop_test_stops h e1 = stops_as h _ _ loop_test_is (stops h (beginning there (test scopes place e p)) loop_end e1)
 
   pub loop_test_goes : (mid out : List Stmt) (x y : Expr) (q : Progress) → beginning there (test scopes place e p) ≡ Ok ((mid, x), q) → y ≡ x → out ≡ mid ++ s.If y s.Skip s.Break ∷ []
-      → appended there (loop_test scopes place e p) ≡ Ok (out, q)
+      → put_behind there (loop_test scopes place e p) ≡ Ok (out, q)
   loop_test_goes mid out x y q made same pushed =
       loop_test_is
       ∙ goes (beginning there (test scopes place e p)) loop_end (mid, x) q made
@@ -58,20 +58,20 @@ module _ (scopes : Scopes) (place : Place) (e : CExpr) (there : List Stmt) (p : 
 
 module _ (scopes : Scopes) (result : CType) (place : Place) (e : CExpr) (there : List Stmt) (p : Progress) where
   abbrev return_when : Bool → Result (List Stmt × Progress) Refusal
-  return_when b = followed (unless (ill_typed place) (not b) p) (λ _ q. followed (right_side scopes e q) (sent_back result place))
+  return_when b = and_then (unless (ill_typed place) (not b) p) (λ _ q. and_then (right_side scopes e q) (send_back result place))
 
-  pub void_stops : is_void result ≡ true → appended there (returned scopes result place (Some e) p) ≡ Err (ill_typed place)
-  void_stops void = ap (λ b. appended there (return_when b)) void
+  pub void_stops : is_void result ≡ true → put_behind there (return_statement scopes result place (Some e) p) ≡ Err (ill_typed place)
+  void_stops void = ap (λ b. put_behind there (return_when b)) void
 
   module _ (some : is_void result ≡ false) where
-    return_is : appended there (returned scopes result place (Some e) p) ≡ followed (onto there (right_side scopes e p)) (sent_back result place)
+    return_is : put_behind there (return_statement scopes result place (Some e) p) ≡ and_then (onto there (right_side scopes e p)) (send_back result place)
     return_is =
-        ap (λ b. appended there (return_when b)) some
-        ∙ through_value there (right_side scopes e p) (sent_back result place)
+        ap (λ b. put_behind there (return_when b)) some
+        ∙ through_value there (right_side scopes e p) (send_back result place)
         (λ a q. judged_behind there a.before (unless (ill_typed place) (o.fits_into result a.operand) q) (s.Return (Some (cast_into result a))))
 
-    pub return_stops : (h : Halt) → Stops h (onto there (right_side scopes e p)) → Stops h (appended there (returned scopes result place (Some e) p))
-    return_stops h e1 = stops_as h _ _ return_is (stops h (onto there (right_side scopes e p)) (sent_back result place) e1)
+    pub return_stops : (h : Halt) → Stops h (onto there (right_side scopes e p)) → Stops h (put_behind there (return_statement scopes result place (Some e) p))
+    return_stops h e1 = stops_as h _ _ return_is (stops h (onto there (right_side scopes e p)) (send_back result place) e1)
 
-    pub return_read : (a : Translated) (q : Progress) → onto there (right_side scopes e p) ≡ Ok (a, q) → appended there (returned scopes result place (Some e) p) ≡ sent_back result place a q
-    return_read a q e1 = return_is ∙ goes (onto there (right_side scopes e p)) (sent_back result place) a q e1
+    pub return_read : (a : Translated) (q : Progress) → onto there (right_side scopes e p) ≡ Ok (a, q) → put_behind there (return_statement scopes result place (Some e) p) ≡ send_back result place a q
+    return_read a q e1 = return_is ∙ goes (onto there (right_side scopes e p)) (send_back result place) a q e1

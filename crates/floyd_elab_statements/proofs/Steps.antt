@@ -8,13 +8,13 @@ use Rattle.floyd_text.specs.declared.refusal.Halt.{Halt}
 use Rattle.floyd_text.specs.declared.refusal.Halt.TheVariants.{Refused, Memory}
 use Rattle.floyd_text.specs.Gives.{Stops, Gives}
 use Rattle.floyd_elab_names.specs.declared.tags.Tags.{Tags}
-use Rattle.floyd_elab_names.specs.Doing.{Doing, followed}
+use Rattle.floyd_elab_names.specs.Refusing.{Refusing, and_then}
 use Rattle.floyd_elab_names.specs.Typing.{Typing}
 use Rattle.floyd_clight.specs.declared.syntax.Stmt.{Stmt}
 use Rattle.floyd_elab_expressions.specs.declared.progress.Progress.{Progress}
 use Rattle.floyd_elab_expressions.specs.Progress.{with_tags, typing}
-use Rattle.floyd_elab_expressions.specs.Behind.{appended}
-use Rattle.floyd_elab_statements.specs.LocalParts.{beginning}
+use Rattle.floyd_elab_expressions.specs.Behind.{put_behind}
+use Rattle.floyd_elab_statements.specs.LocalClauses.{beginning}
 
 abbrev pub value_or : {A : Type 0} → A → Result A Refusal → A
 value_or other (Ok a) = a
@@ -22,14 +22,14 @@ value_or other (Err refusal) = other
 
 -- What follows what was done.
 
-pub goes : {S A B : Type 0} (r : Result (A × S) Refusal) (k : A → Doing S B) (a : A) (s : S) → r ≡ Ok (a, s) → followed r k ≡ k a s
-goes r k a s e = ap (λ x. followed x k) e
+pub goes : {S A B : Type 0} (r : Result (A × S) Refusal) (k : A → Refusing S B) (a : A) (s : S) → r ≡ Ok (a, s) → and_then r k ≡ k a s
+goes r k a s e = ap (λ x. and_then x k) e
 
-pub stops : {S A B : Type 0} (h : Halt) (r : Result (A × S) Refusal) (k : A → Doing S B) → Stops h r → Stops h (followed r k)
-stops (Refused refusal) r k e = ap (λ x. followed x k) e
+pub stops : {S A B : Type 0} (h : Halt) (r : Result (A × S) Refusal) (k : A → Refusing S B) → Stops h r → Stops h (and_then r k)
+stops (Refused refusal) r k e = ap (λ x. and_then x k) e
 stops Memory r k e = tt
 
-pub assoc : {S A B C : Type 0} (r : Result (A × S) Refusal) (f : A → Doing S B) (g : B → Doing S C) → followed (followed r f) g ≡ followed r (λ a s. followed (f a s) g)
+pub assoc : {S A B C : Type 0} (r : Result (A × S) Refusal) (f : A → Refusing S B) (g : B → Refusing S C) → and_then (and_then r f) g ≡ and_then r (λ a s. and_then (f a s) g)
 assoc (Ok r) f g = refl
 assoc (Err refusal) f g = refl
 
@@ -47,7 +47,7 @@ typing_stops (Refused refusal) t p e = ap (with_tags p) e
 typing_stops Memory t p e = tt
 
 -- Nothing went there.
-pub appended_none : {S : Type 0} (there : List Stmt) (s : S) → appended there (Ok ([], s)) ≡ Ok (there, s)
+pub appended_none : {S : Type 0} (there : List Stmt) (s : S) → put_behind there (Ok ([], s)) ≡ Ok (there, s)
 appended_none {S} there s = ap (λ (l : List Stmt). let made : Result (List Stmt × S) Refusal = Ok (l, s) in made) (append-nil there)
 
 -- Statements beside something else.
@@ -70,14 +70,14 @@ gives_as view (Err h) w v e g = stops_as h w v e g
 -- Something else is put beside statements.
 
 beside_is : {S B : Type 0} (there : List Stmt) (w : Result (List Stmt × S) Refusal) (b : B)
-    → beginning there (followed w (λ first s. Ok ((first, b), s))) ≡ followed (appended there w) (λ all s. Ok ((all, b), s))
+    → beginning there (and_then w (λ first s. Ok ((first, b), s))) ≡ and_then (put_behind there w) (λ all s. Ok ((all, b), s))
 beside_is there (Ok r) b = refl
 beside_is there (Err refusal) b = refl
 
 pub beside : {S B : Type 0} (r : Result (Unit {0}) Halt) (there : List Stmt) (w : Result (List Stmt × S) Refusal) (out : List Stmt) (b : B) (s : S)
-    → Gives (λ u. (out, s)) r (appended there w) → Gives (λ u. ((out, b), s)) r (beginning there (followed w (λ first s. Ok ((first, b), s))))
-beside (Ok u) there w out b s e = beside_is there w b ∙ goes (appended there w) (λ all s. Ok ((all, b), s)) out s e
-beside (Err h) there w out b s e = stops_as h _ _ (beside_is there w b) (stops h (appended there w) (λ all s. Ok ((all, b), s)) e)
+    → Gives (λ u. (out, s)) r (put_behind there w) → Gives (λ u. ((out, b), s)) r (beginning there (and_then w (λ first s. Ok ((first, b), s))))
+beside (Ok u) there w out b s e = beside_is there w b ∙ goes (put_behind there w) (λ all s. Ok ((all, b), s)) out s e
+beside (Err h) there w out b s e = stops_as h _ _ (beside_is there w b) (stops h (put_behind there w) (λ all s. Ok ((all, b), s)) e)
 
 pub gives_err : {X Y : Type 0} (view : X → Y) (r : Result X Halt) (h : Halt) (w : Result Y Refusal) → IsErrAnd r (λ x. x ≡ h) → Stops h w → Gives view r w
 gives_err view (Ok x) h w e s = absurd e
@@ -89,6 +89,6 @@ on_ok (Err e) p = tt
 
 pub beside_same : {S B : Type 0} (r : Result (Unit {0}) Halt) (there : List Stmt) (w : Result (List Stmt × S) Refusal) (out : List Stmt) (b now : B) (s : S)
     → OnOk r (now ≡ b)
-    → Gives (λ u. (out, s)) r (appended there w) → Gives (λ u. ((out, now), s)) r (beginning there (followed w (λ first s. Ok ((first, b), s))))
+    → Gives (λ u. (out, s)) r (put_behind there w) → Gives (λ u. ((out, now), s)) r (beginning there (and_then w (λ first s. Ok ((first, b), s))))
 beside_same (Ok u) there w out b now s same e = beside (Ok u) there w out b s e ∙ (λ j. let back : b ≡ now = sym same in Ok ((out, back j), s))
 beside_same (Err h) there w out b now s same e = beside (Err h) there w out b s e

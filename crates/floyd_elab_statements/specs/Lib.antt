@@ -1,6 +1,6 @@
 -- Definitions that contracts cite.
 pub mod Locals
-pub mod LocalParts
+pub mod LocalClauses
 pub mod Statements
-pub mod Walks
-pub mod Placed
+pub mod WalkClauses
+pub mod PlaceClauses

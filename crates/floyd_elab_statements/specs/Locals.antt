@@ -12,7 +12,7 @@ use Rattle.floyd_elab_names.specs.declared.meaning.Meaning.TheVariants as m
 use Rattle.floyd_elab_names.specs.declared.meaning.Storage.{Storage}
 use Rattle.floyd_elab_names.specs.declared.meaning.Storage.TheVariants as kept
 use Rattle.floyd_elab_names.specs.Refusals.{Site, left_out, ill_typed}
-use Rattle.floyd_elab_names.specs.Doing.{◌>>=◌, ◌>>◌, pure, unless, of_kept}
+use Rattle.floyd_elab_names.specs.Refusing.{◌>>=◌, ◌>>◌, pure, unless, of_kept}
 use Rattle.floyd_elab_names.specs.Typing.{the_structs}
 use Rattle.floyd_elab_names.specs.Scopes.{Scopes, names_in, with_meaning}
 use Rattle.floyd_elab_names.specs.Types.{is_aggregate, is_object_within, is_object_type}
@@ -22,7 +22,7 @@ use Rattle.floyd_clight.specs.declared.syntax.Stmt.{Stmt}
 use Rattle.floyd_elab_expressions.specs.Clight.{Translated, kth_name}
 use Rattle.floyd_elab_expressions.specs.Progress.{Elaborating, typing, add_temporary, add_block, add_name}
 use Rattle.floyd_elab_expressions.specs.Expressions.{variable_of}
-use Rattle.floyd_elab_effects.specs.Effects.{assigned_first}
+use Rattle.floyd_elab_effects.specs.Effects.{first_assignment}
 use Rattle.floyd_elab_addresses.specs.Addresses.{in_initialiser, in_declarators}
 
 -- the site of a declarator without a name, which no variable has
@@ -41,8 +41,8 @@ add_variable kept.Block x t = add_block x t
 add_variable storage x t = add_temporary x t
 
 -- A variable of the type that a declarator declares. `taken` says of a name whether its address is taken.
-abbrev pub declared : Scopes → CType → Declarator → (List ℕ → Bool) → Elaborating Meaning
-declared scopes base d taken = do
+abbrev pub declare_variable : Scopes → CType → Declarator → (List ℕ → Bool) → Elaborating Meaning
+declare_variable scopes base d taken = do
   t ← typing (declarator_type scopes nowhere base d)
   structs ← typing the_structs
   unless (left_out (limit_site nowhere d)) (is_object_within structs t)
@@ -61,17 +61,17 @@ target_of (m.Variable x t storage) = record { before = []; expr = variable_of st
 target_of meaning = []
 
 -- a declaration with `= r` is the assignment at its place
-abbrev pub initialised : Scopes → List Translated → Option (Place × CExpr) → Elaborating (List Stmt)
-initialised scopes (target ∷ more) (Some right) = assigned_first scopes right.0 right.1 target
-initialised scopes targets right = pure []
+abbrev pub initialise : Scopes → List Translated → Option (Place × CExpr) → Elaborating (List Stmt)
+initialise scopes (target ∷ more) (Some right) = first_assignment scopes right.0 right.1 target
+initialise scopes targets right = pure []
 
 -- The variables of one base, and the scopes behind them. A variable is in scope in its own initialiser. `rest` says of a
 -- name whether its address is taken behind them.
 abbrev pub declarators : Scopes → CType → List LocalDeclarator → (List ℕ → Bool) → Elaborating (List Stmt × Scopes)
 declarators scopes base [] rest = pure ([], scopes)
 declarators scopes base (d ∷ ds) rest = do
-  meaning ← declared scopes base d.declarator (λ x. in_initialiser x d.initialiser || in_declarators x ds (rest x))
+  meaning ← declare_variable scopes base d.declarator (λ x. in_initialiser x d.initialiser || in_declarators x ds (rest x))
   let inner = with_meaning (name_or_none (name_of d.declarator)) meaning scopes
-  first ← initialised inner (target_of meaning) d.initialiser
+  first ← initialise inner (target_of meaning) d.initialiser
   more ← declarators inner base ds rest
   pure (first ++ more.0, more.1)

@@ -6,18 +6,18 @@ use Rattle.floyd_cparse_trees.specs.declared.expressions.CExpr.{CExpr}
 use Rattle.floyd_cparse_trees.specs.declared.statements.BlockItem as i
 use Rattle.floyd_cparse_trees.specs.declared.statements.CStatement as c
 use Rattle.floyd_elab_names.specs.Refusals.{ill_typed}
-use Rattle.floyd_elab_names.specs.Doing.{◌>>=◌, ◌>>◌, pure, unless}
+use Rattle.floyd_elab_names.specs.Refusing.{◌>>=◌, ◌>>◌, pure, unless}
 use Rattle.floyd_elab_names.specs.Scopes.{Scopes}
 use Rattle.floyd_elab_names.specs.Types.{is_void}
 use Rattle.floyd_ctyping.specs.Operators as o
 use Rattle.floyd_elab_names.specs.Declarators.{base_type}
-use Rattle.floyd_ctyping.specs.Expressions.{tested}
+use Rattle.floyd_ctyping.specs.Expressions.{check_test}
 use Rattle.floyd_clight.specs.declared.syntax.Expr.{Expr}
 use Rattle.floyd_clight.specs.declared.syntax.Stmt as s
 use Rattle.floyd_clight.specs.declared.syntax.Stmt.{Stmt}
 use Rattle.floyd_elab_expressions.specs.Clight.{cast_into, test_of, sequence}
 use Rattle.floyd_elab_expressions.specs.Progress.{Elaborating, typing}
-use Rattle.floyd_elab_expressions.specs.Expressions.{valued}
+use Rattle.floyd_elab_expressions.specs.Expressions.{rvalue}
 use Rattle.floyd_elab_effects.specs.Effects.{right_side, effect}
 use Rattle.floyd_elab_addresses.specs.Addresses.{in_items}
 use Rattle.floyd_elab_statements.specs.Locals.{nowhere, declarators}
@@ -25,8 +25,8 @@ use Rattle.floyd_elab_statements.specs.Locals.{nowhere, declarators}
 -- a test: the statements before it, and the test itself, which is ill typed at the word of its statement
 abbrev pub test : Scopes → Place → CExpr → Elaborating (List Stmt × Expr)
 test scopes place e = do
-  a ← valued scopes e
-  typing (tested place a.operand)
+  a ← rvalue scopes e
+  typing (check_test place a.operand)
   pure (a.before, test_of e a)
 
 -- the test of a loop, which breaks where it fails
@@ -44,11 +44,11 @@ optional_effect scopes None = pure []
 optional_effect scopes (Some e) = effect scopes e
 
 -- `return` in a function of that result: a value where there is one, and none in a void function
-abbrev pub returned : Scopes → CType → Place → Option CExpr → Elaborating (List Stmt)
-returned scopes result place None = do
+abbrev pub return_statement : Scopes → CType → Place → Option CExpr → Elaborating (List Stmt)
+return_statement scopes result place None = do
   unless (ill_typed place) (is_void result)
   pure (s.Return None ∷ [])
-returned scopes result place (Some e) = do
+return_statement scopes result place (Some e) = do
   unless (ill_typed place) (not (is_void result))
   a ← right_side scopes e
   unless (ill_typed place) (o.fits_into result a.operand)
@@ -86,7 +86,7 @@ module _ (result : CType) where
       pure (before ++ s.Loop (sequence (t ++ inner)) (sequence behind) ∷ [])
     statement scopes c.Break = pure (s.Break ∷ [])
     statement scopes c.Continue = pure (s.Continue ∷ [])
-    statement scopes (c.Return place e) = returned scopes result place e
+    statement scopes (c.Return place e) = return_statement scopes result place e
 
     -- the items of a block, whose scope is the innermost one
     pub items : {m : _} → Scopes → c.Row_of-BlockItem m → Elaborating (List Stmt)

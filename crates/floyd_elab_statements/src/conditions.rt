@@ -2,17 +2,17 @@
 ghost use Rattle.std.specs.Prelude.{◌≡◌, ◌∷◌, [], ◌++◌, List, IfOk};
 ghost use Rattle.floyd_text.specs.Gives.{Gives};
 ghost use Rattle.floyd_clight.specs.declared.syntax.Stmt.{Stmt, If, Skip as DoNothing, Break as Leave};
-ghost use Rattle.floyd_elab_expressions.specs.Behind.{behind, appended};
+ghost use Rattle.floyd_elab_expressions.specs.Behind.{behind, put_behind};
 ghost use Rattle.floyd_elab_expressions.specs.declared.progress.Progress.{Progress as Kept};
-ghost use Rattle.floyd_elab_statements.specs.LocalParts.{beginning};
+ghost use Rattle.floyd_elab_statements.specs.LocalClauses.{beginning};
 ghost use Rattle.floyd_elab_statements.specs.Statements.{test as test_lem, loop_test as loop_test_lem, optional_test as optional_test_lem, optional_effect as optional_effect_lem};
-ghost use Rattle.floyd_elab_statements.specs.Walks.{judged as judged_lem};
+ghost use Rattle.floyd_elab_statements.specs.WalkClauses.{judge_test as judge_test_lem};
 
 use floyd_clight::{Expr, Stmt, StmtList};
 use floyd_cparse_trees::CExpr;
-use floyd_ctyping::tested;
+use floyd_ctyping::check_test;
 use floyd_elab_effects::effect;
-use floyd_elab_expressions::{Progress, Translation, test_of, valued};
+use floyd_elab_expressions::{Progress, Translation, rvalue, test_of};
 use floyd_elab_names::Names;
 use floyd_text::{Halt, Place, Shared};
 use std::alloc::{AllocError, Global};
@@ -25,45 +25,41 @@ pub(crate) fn test(
     e: &CExpr,
     progress: &mut Progress,
     out: &mut StmtList,
-) -> Result<Shared<Expr>, Halt>
+) -> Result<Expr, Halt>
     ensures exact { Gives (λ x. ((out.new, x), progress.new)) result (beginning out.old (test_lem names.now place e.now progress.old)) }
 {
-    let a = valued(alloc, names, e, progress, out)?;
-    let value = Shared::new(alloc, a)?;
-    judged(alloc, place, e, value.get())
+    let a = rvalue(alloc, names, e, progress, out)?;
+    judge_test(alloc, place, e, &a)
 }
 
 /// The test of what was translated.
-fn judged(alloc: Global, place: Place, e: &CExpr, a: &Translation) -> Result<Shared<Expr>, Halt>
-    ensures exact { (before : List Stmt) (progress : Kept) → Gives (λ x. ((before, x), progress)) result (judged_lem place e.now (behind before a.now) progress) }
+fn judge_test(alloc: Global, place: Place, e: &CExpr, a: &Translation) -> Result<Expr, Halt>
+    ensures exact { (before : List Stmt) (progress : Kept) → Gives (λ x. ((before, x), progress)) result (judge_test_lem place e.now (behind before a.now) progress) }
 {
-    tested(alloc, place, &a.operand)?;
-    let made = test_of(alloc, e, a)?;
-    Ok(Shared::new(alloc, made)?)
+    check_test(alloc, place, &a.operand)?;
+    Ok(test_of(alloc, e, a)?)
 }
 
 /// Pushes an `if` with these branches.
 pub(crate) fn push_if(
-    alloc: Global,
-    test: &Expr,
+    test: Expr,
     first: Shared<Stmt>,
     second: Shared<Stmt>,
     out: &mut StmtList,
 ) -> Result<(), AllocError>
-    ensures { IfOk result (λ u. out.new ≡ out.old ++ If test.now first second ∷ []) }
+    ensures { IfOk result (λ u. out.new ≡ out.old ++ If test first second ∷ []) }
 {
-    let test = test.share(alloc)?;
     out.push(Stmt::If(test, first, second))?;
     Ok(())
 }
 
 /// Pushes an `if` that breaks where the test fails.
-fn push_break(alloc: Global, test: &Expr, out: &mut StmtList) -> Result<(), AllocError>
-    ensures { IfOk result (λ u. out.new ≡ out.old ++ If test.now DoNothing Leave ∷ []) }
+fn push_break(alloc: Global, test: Expr, out: &mut StmtList) -> Result<(), AllocError>
+    ensures { IfOk result (λ u. out.new ≡ out.old ++ If test DoNothing Leave ∷ []) }
 {
     let go_on = Shared::new(alloc, Stmt::Skip)?;
     let stop = Shared::new(alloc, Stmt::Break)?;
-    push_if(alloc, test, go_on, stop, out)
+    push_if(test, go_on, stop, out)
 }
 
 /// The test of a loop, which breaks where it fails.
@@ -75,10 +71,10 @@ pub(crate) fn loop_test(
     progress: &mut Progress,
     out: &mut StmtList,
 ) -> Result<(), Halt>
-    ensures exact { Gives (λ u. (out.new, progress.new)) result (appended out.old (loop_test_lem names.now place e.now progress.old)) }
+    ensures exact { Gives (λ u. (out.new, progress.new)) result (put_behind out.old (loop_test_lem names.now place e.now progress.old)) }
 {
     let test = test(alloc, names, place, e, progress, out)?;
-    push_break(alloc, test.get(), out)?;
+    push_break(alloc, test, out)?;
     Ok(())
 }
 
@@ -90,7 +86,7 @@ pub(crate) fn optional_test(
     progress: &mut Progress,
     out: &mut StmtList,
 ) -> Result<(), Halt>
-    ensures exact { Gives (λ u. (out.new, progress.new)) result (appended out.old (optional_test_lem names.now place e.now progress.old)) }
+    ensures exact { Gives (λ u. (out.new, progress.new)) result (put_behind out.old (optional_test_lem names.now place e.now progress.old)) }
 {
     match e {
         Some(e) => loop_test(alloc, names, place, e, progress, out),
@@ -105,7 +101,7 @@ pub(crate) fn optional_effect(
     progress: &mut Progress,
     out: &mut StmtList,
 ) -> Result<(), Halt>
-    ensures exact { Gives (λ u. (out.new, progress.new)) result (appended out.old (optional_effect_lem names.now e.now progress.old)) }
+    ensures exact { Gives (λ u. (out.new, progress.new)) result (put_behind out.old (optional_effect_lem names.now e.now progress.old)) }
 {
     match e {
         Some(e) => effect(alloc, names, e, progress, out),

@@ -2,6 +2,7 @@
 #![tactic(auto)]
 
 mod conditions;
+mod function;
 mod locals;
 mod returns;
 mod statements;

@@ -4,26 +4,26 @@ ghost use Rattle.floyd_text.specs.Gives.{Gives};
 ghost use Rattle.floyd_elab_names.specs.declared.meaning.Meaning.TheVariants.{Variable};
 ghost use Rattle.floyd_elab_names.specs.declared.tags.Tags.{Tags as Kept};
 ghost use Rattle.floyd_elab_names.specs.Declarators.{name_of as name_of_lem, unless_among};
-ghost use Rattle.floyd_elab_names.specs.Scopes.{left, names_in};
-ghost use Rattle.floyd_elab_expressions.specs.Behind.{behind, appended};
+ghost use Rattle.floyd_elab_names.specs.Scopes.{leave, names_in};
+ghost use Rattle.floyd_elab_expressions.specs.Behind.{behind, put_behind};
 ghost use Rattle.floyd_elab_addresses.specs.Flags.{declarator_flags};
-ghost use Rattle.floyd_elab_statements.specs.Locals.{nowhere as nowhere_lem, name_among as name_among_lem, storage_of as storage_of_lem, add_variable as add_variable_lem, declared as declared_lem, target_of as target_of_lem, initialised as initialised_lem, declarators as declarators_lem};
-ghost use Rattle.floyd_elab_statements.specs.LocalParts.{beginning, declaration as declaration_lem, variable_type as variable_type_lem, variable as variable_lem, targets};
+ghost use Rattle.floyd_elab_statements.specs.Locals.{nowhere as nowhere_lem, name_among as name_among_lem, storage_of as storage_of_lem, add_variable as add_variable_lem, declare_variable as declare_variable_lem, target_of as target_of_lem, initialise as initialise_lem, declarators as declarators_lem};
+ghost use Rattle.floyd_elab_statements.specs.LocalClauses.{beginning, declaration as declaration_lem, variable_type as variable_type_lem, variable as variable_lem, targets};
 
-use crate::variables::declarator;
+use crate::variables::{OneDeclarator, declare};
 use floyd_clight::StmtList;
 use floyd_cparse_trees::{CExpr, Declarator, Identifier, LocalDeclaration, LocalDeclarator};
 use floyd_ctypes::CType;
 use floyd_ctyping::Operand;
 use floyd_elab_addresses::Flags;
-use floyd_elab_effects::assign_first;
+use floyd_elab_effects::{Destination, assign_first};
 use floyd_elab_expressions::{NameList, Progress, Translation, kth_name, variable_of};
 use floyd_elab_names::{
     Meaning, Names, Site, Storage, base_type, declarator_type, ill_typed, is_aggregate,
     is_object_type, is_object_within, left_out, limit_site, name_of, name_or_none, name_site,
     redeclared,
 };
-use floyd_text::{Halt, Name, Place, Shared};
+use floyd_text::{Halt, Name, Place};
 use std::alloc::{AllocError, Global};
 
 /// The site of a declarator without a name, which no variable has.
@@ -142,7 +142,7 @@ fn variable(
 }
 
 /// A variable of the type that a declarator declares.
-pub(crate) fn declared(
+pub(crate) fn declare_variable(
     alloc: Global,
     names: &Names,
     base: &CType,
@@ -150,7 +150,7 @@ pub(crate) fn declared(
     taken: bool,
     progress: &mut Progress,
 ) -> Result<Meaning, Halt>
-    ensures exact { Gives (λ m. (m, progress.new)) result (declared_lem names.now base.now d.now (λ x. taken) progress.old) }
+    ensures exact { Gives (λ m. (m, progress.new)) result (declare_variable_lem names.now base.now d.now (λ x. taken) progress.old) }
 {
     let t = variable_type(alloc, names, base, d, progress)?;
     variable(alloc, d, t, taken, progress)
@@ -172,10 +172,7 @@ fn variable_target(
 }
 
 /// The variable as what its initial value is assigned to.
-pub(crate) fn target_of(
-    alloc: Global,
-    meaning: &Meaning,
-) -> Result<Option<Shared<Translation>>, AllocError>
+pub(crate) fn target_of(alloc: Global, meaning: &Meaning) -> Result<Option<Translation>, AllocError>
     ensures { IfOk result (λ o. targets o ≡ target_of_lem meaning.now) }
 {
     match meaning {
@@ -183,29 +180,30 @@ pub(crate) fn target_of(
             called,
             ctype,
             storage,
-        } => {
-            let target = variable_target(alloc, *storage, called, ctype)?;
-            Ok(Some(Shared::new(alloc, target)?))
-        }
+        } => Ok(Some(variable_target(alloc, *storage, called, ctype)?)),
         Meaning::Type { .. } | Meaning::Function(_) => Ok(None),
     }
 }
 
 /// A declaration with an initial value is the assignment at its place.
-pub(crate) fn initialised(
+pub(crate) fn initialise(
     alloc: Global,
     names: &Names,
-    target: &Option<Shared<Translation>>,
+    target: &Option<Translation>,
     right: &Option<(Place, CExpr)>,
     progress: &mut Progress,
     out: &mut StmtList,
 ) -> Result<(), Halt>
-    ensures exact { Gives (λ u. (out.new, progress.new)) result (appended out.old (initialised_lem names.now (targets target.now) right.now progress.old)) }
+    ensures exact { Gives (λ u. (out.new, progress.new)) result (put_behind out.old (initialise_lem names.now (targets target.now) right.now progress.old)) }
 {
     match target {
         Some(target) => match right {
             Some((place, e)) => {
-                assign_first(alloc, names, *place, target.get(), e, progress, out)
+                let to = Destination {
+                    place: *place,
+                    target,
+                };
+                assign_first(alloc, names, to, e, progress, out)
             }
             None => Ok(()),
         },
@@ -223,23 +221,33 @@ fn next_flag(flags: &mut Flags) -> bool
     }
 }
 
+/// The declarators of one base.
+#[derive(Clone, Copy)]
+struct DeclaratorList<'a> {
+    base: &'a CType,
+    all: &'a [LocalDeclarator],
+}
+
 /// The variables of one base, with their flags before all others. They are in the innermost scope afterwards.
 fn declarators(
     alloc: Global,
-    all: &[LocalDeclarator],
-    base: &CType,
+    parts: DeclaratorList<'_>,
     names: &mut Names,
     flags: &mut Flags,
     progress: &mut Progress,
     out: &mut StmtList,
 ) -> Result<(), Halt>
-    ensures exact { (rest : List ℕ → Bool) (more : List Bool) → flags.old ≡ declarator_flags all.now rest ++ more → Gives (λ u. ((out.new, names.new), progress.new)) result (beginning out.old (declarators_lem names.old base.now all.now rest progress.old)) }
-    ensures flags { (rest : List ℕ → Bool) (more : List Bool) → flags.old ≡ declarator_flags all.now rest ++ more → OnOk result (flags.new ≡ more) }
-    ensures left { OnOk result (left names.new ≡ left names.old) }
+    ensures exact { (rest : List ℕ → Bool) (more : List Bool) → flags.old ≡ declarator_flags parts.entry.all.now rest ++ more → Gives (λ u. ((out.new, names.new), progress.new)) result (beginning out.old (declarators_lem names.old parts.entry.base.now parts.entry.all.now rest progress.old)) }
+    ensures flags { (rest : List ℕ → Bool) (more : List Bool) → flags.old ≡ declarator_flags parts.entry.all.now rest ++ more → OnOk result (flags.new ≡ more) }
+    ensures left { OnOk result (leave names.new ≡ leave names.old) }
 {
-    'declarators: for d in all {
-        let taken = next_flag(flags);
-        declarator(alloc, d, base, taken, names, progress, out)?;
+    'declarators: for declarator in parts.all {
+        let one = OneDeclarator {
+            declarator,
+            base: parts.base,
+            taken: next_flag(flags),
+        };
+        declare(alloc, one, names, progress, out)?;
     }
     Ok(())
 }
@@ -255,17 +263,13 @@ pub(crate) fn declaration(
 ) -> Result<(), Halt>
     ensures exact { (rest : List ℕ → Bool) (more : List Bool) → flags.old ≡ declarator_flags d.now.declarators rest ++ more → Gives (λ u. ((out.new, names.new), progress.new)) result (beginning out.old (declaration_lem names.old d.now rest progress.old)) }
     ensures flags { (rest : List ℕ → Bool) (more : List Bool) → flags.old ≡ declarator_flags d.now.declarators rest ++ more → OnOk result (flags.new ≡ more) }
-    ensures left { OnOk result (left names.new ≡ left names.old) }
+    ensures left { OnOk result (leave names.new ≡ leave names.old) }
 {
     let site = nowhere(alloc)?;
     let base = base_type(alloc, names, &mut progress.tags, &site, &d.specifiers.base)?;
-    declarators(
-        alloc,
-        d.declarators.as_slice(),
-        &base,
-        names,
-        flags,
-        progress,
-        out,
-    )
+    let parts = DeclaratorList {
+        base: &base,
+        all: d.declarators.as_slice(),
+    };
+    declarators(alloc, parts, names, flags, progress, out)
 }

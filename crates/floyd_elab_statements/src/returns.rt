@@ -2,12 +2,13 @@
 ghost use Rattle.std.specs.Prelude.{◌≡◌, ◌∷◌, [], ◌++◌, Some as There, IfOk};
 ghost use Rattle.floyd_text.specs.Gives.{Gives};
 ghost use Rattle.floyd_clight.specs.declared.syntax.Stmt.{Return as Returns};
-ghost use Rattle.floyd_elab_expressions.specs.Behind.{behind, appended};
+ghost use Rattle.floyd_elab_expressions.specs.Behind.{behind, put_behind};
 ghost use Rattle.floyd_elab_expressions.specs.declared.progress.Progress.{Progress as Kept};
 ghost use Rattle.floyd_elab_expressions.specs.Clight.{cast_into as cast_into_lem};
-ghost use Rattle.floyd_elab_statements.specs.Statements.{returned as returned_lem};
-ghost use Rattle.floyd_elab_statements.specs.Walks.{sent_back as sent_back_lem};
+ghost use Rattle.floyd_elab_statements.specs.Statements.{return_statement as return_statement_lem};
+ghost use Rattle.floyd_elab_statements.specs.WalkClauses.{send_back as send_back_lem};
 
+use crate::function::Function;
 use floyd_clight::{Stmt, StmtList};
 use floyd_cparse_trees::CExpr;
 use floyd_ctypes::CType;
@@ -19,21 +20,20 @@ use floyd_text::{Halt, Place};
 use std::alloc::{AllocError, Global};
 
 /// `return` in a function of that result: a value where there is one, and none in a void function.
-pub(crate) fn returned(
-    alloc: Global,
+pub(crate) fn return_statement(
+    function: Function<'_>,
     names: &Names,
-    result_type: &CType,
     place: Place,
     value: &Option<CExpr>,
     progress: &mut Progress,
     out: &mut StmtList,
 ) -> Result<(), Halt>
-    ensures exact { Gives (λ u. (out.new, progress.new)) result (appended out.old (returned_lem names.now result_type.now place value.now progress.old)) }
+    ensures exact { Gives (λ u. (out.new, progress.new)) result (put_behind out.old (return_statement_lem names.now function.entry.result_type.now place value.now progress.old)) }
 {
     match value {
-        Some(e) => returned_value(alloc, names, result_type, place, e, progress, out),
+        Some(e) => return_value(function, names, place, e, progress, out),
         None => {
-            if !is_void(result_type) {
+            if !is_void(function.result_type) {
                 return Err(Halt::Refused(ill_typed(place)));
             }
             out.push(Stmt::Return(None))?;
@@ -42,38 +42,37 @@ pub(crate) fn returned(
     }
 }
 
-fn returned_value(
-    alloc: Global,
+fn return_value(
+    function: Function<'_>,
     names: &Names,
-    result_type: &CType,
     place: Place,
     e: &CExpr,
     progress: &mut Progress,
     out: &mut StmtList,
 ) -> Result<(), Halt>
-    ensures exact { Gives (λ u. (out.new, progress.new)) result (appended out.old (returned_lem names.now result_type.now place (There e.now) progress.old)) }
+    ensures exact { Gives (λ u. (out.new, progress.new)) result (put_behind out.old (return_statement_lem names.now function.entry.result_type.now place (There e.now) progress.old)) }
 {
-    if is_void(result_type) {
+    if is_void(function.result_type) {
         return Err(Halt::Refused(ill_typed(place)));
     }
-    let a = right_side(alloc, names, e, progress, out)?;
-    sent_back(alloc, result_type, place, a.get(), out)
+    let a = right_side(function.alloc, names, e, progress, out)?;
+    send_back(function, place, &a, out)
 }
 
 /// The value is returned, where it fits.
-fn sent_back(
-    alloc: Global,
-    t: &CType,
+fn send_back(
+    function: Function<'_>,
     place: Place,
     a: &Translation,
     out: &mut StmtList,
 ) -> Result<(), Halt>
-    ensures exact { (progress : Kept) → Gives (λ u. (out.new, progress)) result (sent_back_lem t.now place (behind out.old a.now) progress) }
+    ensures exact { (progress : Kept) → Gives (λ u. (out.new, progress)) result (send_back_lem function.entry.result_type.now place (behind out.old a.now) progress) }
 {
-    if !fits_into(alloc, t, &a.operand)? {
+    let t = function.result_type;
+    if !fits_into(function.alloc, t, &a.operand)? {
         return Err(Halt::Refused(ill_typed(place)));
     }
-    push_return(alloc, t, a, out)?;
+    push_return(function.alloc, t, a, out)?;
     Ok(())
 }
 

@@ -2,20 +2,21 @@
 ghost use Rattle.std.specs.Prelude.{◌≡◌, ◌∷◌, [], ◌++◌, ℕ, Bool, List, IfOk, OnOk};
 ghost use Rattle.floyd_text.specs.Gives.{Gives};
 ghost use Rattle.floyd_cparse_trees.specs.declared.statements.CStatement.{Block, If as OfIf, While as OfWhile, Do as OfDo, For as OfFor};
-ghost use Rattle.floyd_clight.specs.declared.syntax.Stmt.{Loop as MadeLoop};
-ghost use Rattle.floyd_elab_names.specs.Scopes.{left};
-ghost use Rattle.floyd_elab_expressions.specs.Behind.{appended};
+ghost use Rattle.floyd_clight.specs.declared.syntax.Stmt.{If as MadeIf, Loop as MadeLoop};
+ghost use Rattle.floyd_elab_names.specs.Scopes.{leave};
+ghost use Rattle.floyd_elab_expressions.specs.Behind.{put_behind};
 ghost use Rattle.floyd_elab_expressions.specs.Clight.{sequence as sequence_lem};
 ghost use Rattle.floyd_elab_expressions.specs.declared.progress.Progress.{Progress as Kept};
 ghost use Rattle.floyd_elab_addresses.specs.Flags.{statement_flags};
-ghost use Rattle.floyd_elab_addresses.specs.Parts.{flags_of_all, flags_of_item};
-ghost use Rattle.floyd_elab_statements.specs.LocalParts.{beginning};
+ghost use Rattle.floyd_elab_addresses.specs.PartClauses.{flags_of_all, flags_of_item};
+ghost use Rattle.floyd_elab_statements.specs.LocalClauses.{beginning};
 ghost use Rattle.floyd_elab_statements.specs.Statements.{statement as statement_lem, body as body_lem, loop_test as loop_test_lem, optional_effect as optional_effect_lem};
-ghost use Rattle.floyd_elab_statements.specs.Walks.{item as item_lem, all_items, sequenced, with_one, with_else};
+ghost use Rattle.floyd_elab_statements.specs.WalkClauses.{item as item_lem, all_items, sequence_behind, with_one, with_else};
 
 use crate::conditions::{loop_test, optional_effect, optional_test, push_if, test};
+use crate::function::Function;
 use crate::locals::declaration;
-use crate::returns::returned;
+use crate::returns::return_statement;
 use floyd_clight::{Expr, Stmt, StmtList};
 use floyd_cparse_trees::{BlockItem, CExpr, CStatement};
 use floyd_ctypes::CType;
@@ -37,137 +38,159 @@ pub fn body(
     progress: &mut Progress,
     out: &mut StmtList,
 ) -> Result<(), Halt>
-    ensures exact { Gives (λ u. (out.new, progress.new)) result (appended out.old (body_lem result_type.now names.old (Block items.now) progress.old)) }
-    ensures scopes { OnOk result (left names.new ≡ left names.old) }
+    ensures exact { Gives (λ u. (out.new, progress.new)) result (put_behind out.old (body_lem result_type.now names.old (Block items.now) progress.old)) }
+    ensures scopes { OnOk result (leave names.new ≡ leave names.old) }
 {
     let mut flags = block_addresses(alloc, items)?;
-    all(alloc, items, result_type, names, &mut flags, progress, out)
+    let function = Function { alloc, result_type };
+    all(function, items, names, &mut flags, progress, out)
 }
 
-/// A statement in a function of that result. The flags of its variables are before all others. Its nesting bounds the
-/// depth of the calls.
+/// The test of a statement in a function, at its word.
+#[derive(Clone, Copy)]
+struct Tested<'a> {
+    function: Function<'a>,
+    place: Place,
+    condition: &'a CExpr,
+}
+
+/// What stands in the parentheses of `for`, in a function.
+#[derive(Clone, Copy)]
+struct ForParts<'a> {
+    function: Function<'a>,
+    place: Place,
+    first: &'a Option<CExpr>,
+    condition: &'a Option<CExpr>,
+    third: &'a Option<CExpr>,
+}
+
+/// An `if` in a function whose second branch is left.
+struct Unfinished<'a> {
+    function: Function<'a>,
+    test: Expr,
+    first: Shared<Stmt>,
+}
+
+impl Drop for Unfinished<'_> {
+    fn drop(self) {
+        let Unfinished {
+            function: _,
+            test,
+            first,
+        } = self;
+        drop(test);
+        drop(first);
+    }
+}
+
+impl Unfinished<'_> {
+    /// Pushes it with its second branch.
+    fn push(self, second: Shared<Stmt>, out: &mut StmtList) -> Result<(), AllocError>
+        ensures { IfOk result (λ u. out.new ≡ out.old ++ MadeIf self.entry.test self.entry.first second ∷ []) }
+    {
+        let Unfinished {
+            function: _,
+            test,
+            first,
+        } = self;
+        push_if(test, first, second, out)
+    }
+}
+
+/// A statement in a function. The flags of its variables are before all others. Its nesting bounds the depth of the
+/// calls.
 #[cycle(statement)]
 fn statement(
-    alloc: Global,
+    function: Function<'_>,
     s: &CStatement,
-    result_type: &CType,
     names: &mut Names,
     flags: &mut Flags,
     progress: &mut Progress,
     out: &mut StmtList,
 ) -> Result<(), Halt>
-    ensures exact { (more : List Bool) → flags.old ≡ statement_flags s.now ++ more → Gives (λ u. (out.new, progress.new)) result (appended out.old (statement_lem result_type.now names.old s.now progress.old)) }
+    ensures exact { (more : List Bool) → flags.old ≡ statement_flags s.now ++ more → Gives (λ u. (out.new, progress.new)) result (put_behind out.old (statement_lem function.entry.result_type.now names.old s.now progress.old)) }
     ensures flags { (more : List Bool) → flags.old ≡ statement_flags s.now ++ more → OnOk result (flags.new ≡ more) }
     ensures names { OnOk result (names.new ≡ names.old) }
 {
     match s {
-        CStatement::Block(items) => block(
-            alloc,
-            items.as_slice(),
-            result_type,
-            names,
-            flags,
-            progress,
-            out,
-        ),
+        CStatement::Block(items) => {
+            block(function, items.as_slice(), names, flags, progress, out)
+        }
         CStatement::Empty => Ok(()),
-        CStatement::Effect(e) => effect(alloc, names, e, progress, out),
+        CStatement::Effect(e) => effect(function.alloc, names, e, progress, out),
         CStatement::If {
             place,
             condition,
             then,
-        } => if_then(
-            alloc,
-            then.get(),
-            *place,
-            condition,
-            result_type,
-            names,
-            flags,
-            progress,
-            out,
-        ),
+        } => {
+            let parts = Tested {
+                function,
+                place: *place,
+                condition,
+            };
+            if_then(then.get(), parts, names, flags, progress, out)
+        }
         CStatement::IfElse {
             place,
             condition,
             then,
             otherwise,
         } => {
+            let alloc = function.alloc;
             let test = test(alloc, names, *place, condition, progress, out)?;
-            let first = single(
-                alloc,
-                then.get(),
-                result_type,
-                names,
-                flags,
-                progress,
-                Items::new(alloc),
-            )?;
-            if_else(
-                alloc,
-                otherwise.get(),
+            let none = Items::new(alloc);
+            let first = single(function, then.get(), names, flags, progress, none)?;
+            let made = Unfinished {
+                function,
                 test,
                 first,
-                result_type,
-                names,
-                flags,
-                progress,
-                out,
-            )
+            };
+            if_else(otherwise.get(), made, names, flags, progress, out)
         }
         CStatement::While {
             place,
             condition,
             body,
-        } => while_loop(
-            alloc,
-            body.get(),
-            *place,
-            condition,
-            result_type,
-            names,
-            flags,
-            progress,
-            out,
-        ),
+        } => {
+            let parts = Tested {
+                function,
+                place: *place,
+                condition,
+            };
+            while_loop(body.get(), parts, names, flags, progress, out)
+        }
         CStatement::Do {
             body,
             place,
             condition,
-        } => do_loop(
-            alloc,
-            body.get(),
-            *place,
-            condition,
-            result_type,
-            names,
-            flags,
-            progress,
-            out,
-        ),
+        } => {
+            let parts = Tested {
+                function,
+                place: *place,
+                condition,
+            };
+            do_loop(body.get(), parts, names, flags, progress, out)
+        }
         CStatement::For {
             place,
             first,
             condition,
             third,
             body,
-        } => for_loop(
-            alloc,
-            *place,
-            first,
-            condition,
-            third,
-            body.get(),
-            result_type,
-            names,
-            flags,
-            progress,
-            out,
-        ),
+        } => {
+            let parts = ForParts {
+                function,
+                place: *place,
+                first,
+                condition,
+                third,
+            };
+            for_loop(body.get(), parts, names, flags, progress, out)
+        }
         CStatement::Break => push_one(Stmt::Break, out),
         CStatement::Continue => push_one(Stmt::Continue, out),
         CStatement::Return { place, value } => {
-            returned(alloc, names, result_type, *place, value, progress, out)
+            return_statement(function, names, *place, value, progress, out)
         }
     }
 }
@@ -175,20 +198,19 @@ fn statement(
 /// A block, whose items stand in a scope of their own.
 #[cycle(statement)]
 fn block(
-    alloc: Global,
+    function: Function<'_>,
     items: &[BlockItem],
-    result_type: &CType,
     names: &mut Names,
     flags: &mut Flags,
     progress: &mut Progress,
     out: &mut StmtList,
 ) -> Result<(), Halt>
-    ensures exact { (more : List Bool) → flags.old ≡ flags_of_all items.now ++ more → Gives (λ u. (out.new, progress.new)) result (appended out.old (statement_lem result_type.now names.old (Block items.now) progress.old)) }
+    ensures exact { (more : List Bool) → flags.old ≡ flags_of_all items.now ++ more → Gives (λ u. (out.new, progress.new)) result (put_behind out.old (statement_lem function.entry.result_type.now names.old (Block items.now) progress.old)) }
     ensures flags { (more : List Bool) → flags.old ≡ flags_of_all items.now ++ more → OnOk result (flags.new ≡ more) }
     ensures names { OnOk result (names.new ≡ names.old) }
 {
     names.enter()?;
-    all(alloc, items, result_type, names, flags, progress, out)?;
+    all(function, items, names, flags, progress, out)?;
     names.leave();
     Ok(())
 }
@@ -196,20 +218,19 @@ fn block(
 /// The items of a block, whose scope is the innermost one.
 #[cycle(statement)]
 fn all(
-    alloc: Global,
+    function: Function<'_>,
     items: &[BlockItem],
-    result_type: &CType,
     names: &mut Names,
     flags: &mut Flags,
     progress: &mut Progress,
     out: &mut StmtList,
 ) -> Result<(), Halt>
-    ensures exact { (more : List Bool) → flags.old ≡ flags_of_all items.now ++ more → Gives (λ u. (out.new, progress.new)) result (appended out.old (all_items result_type.now names.old items.now progress.old)) }
+    ensures exact { (more : List Bool) → flags.old ≡ flags_of_all items.now ++ more → Gives (λ u. (out.new, progress.new)) result (put_behind out.old (all_items function.entry.result_type.now names.old items.now progress.old)) }
     ensures flags { (more : List Bool) → flags.old ≡ flags_of_all items.now ++ more → OnOk result (flags.new ≡ more) }
-    ensures left { OnOk result (left names.new ≡ left names.old) }
+    ensures left { OnOk result (leave names.new ≡ leave names.old) }
 {
     'items: for one in items {
-        item(alloc, one, result_type, names, flags, progress, out)?;
+        item(function, one, names, flags, progress, out)?;
     }
     Ok(())
 }
@@ -217,125 +238,109 @@ fn all(
 /// An item of a block. A declaration's names are in the innermost scope behind it.
 #[cycle(statement)]
 fn item(
-    alloc: Global,
+    function: Function<'_>,
     item: &BlockItem,
-    result_type: &CType,
     names: &mut Names,
     flags: &mut Flags,
     progress: &mut Progress,
     out: &mut StmtList,
 ) -> Result<(), Halt>
-    ensures exact { (rest : List ℕ → Bool) (more : List Bool) → flags.old ≡ flags_of_item item.now rest ++ more → Gives (λ u. ((out.new, names.new), progress.new)) result (beginning out.old (item_lem result_type.now names.old item.now rest progress.old)) }
+    ensures exact { (rest : List ℕ → Bool) (more : List Bool) → flags.old ≡ flags_of_item item.now rest ++ more → Gives (λ u. ((out.new, names.new), progress.new)) result (beginning out.old (item_lem function.entry.result_type.now names.old item.now rest progress.old)) }
     ensures flags { (rest : List ℕ → Bool) (more : List Bool) → flags.old ≡ flags_of_item item.now rest ++ more → OnOk result (flags.new ≡ more) }
-    ensures left { OnOk result (left names.new ≡ left names.old) }
+    ensures left { OnOk result (leave names.new ≡ leave names.old) }
 {
     match item {
-        BlockItem::Declaration(d) => declaration(alloc, d, names, flags, progress, out),
-        BlockItem::Statement(s) => { statement(alloc, s, result_type, names, flags, progress, out) }
+        BlockItem::Declaration(d) => { declaration(function.alloc, d, names, flags, progress, out) }
+        BlockItem::Statement(s) => statement(function, s, names, flags, progress, out),
     }
 }
 
 /// A statement as one of Clight, behind those that stand before it.
 #[cycle(statement)]
 fn single(
-    alloc: Global,
+    function: Function<'_>,
     s: &CStatement,
-    result_type: &CType,
     names: &mut Names,
     flags: &mut Flags,
     progress: &mut Progress,
     mut before: StmtList,
 ) -> Result<Shared<Stmt>, Halt>
-    ensures exact { (more : List Bool) → flags.old ≡ statement_flags s.now ++ more → Gives (λ x. (x, progress.new)) result (sequenced before (statement_lem result_type.now names.old s.now progress.old)) }
+    ensures exact { (more : List Bool) → flags.old ≡ statement_flags s.now ++ more → Gives (λ x. (x, progress.new)) result (sequence_behind before (statement_lem function.entry.result_type.now names.old s.now progress.old)) }
     ensures flags { (more : List Bool) → flags.old ≡ statement_flags s.now ++ more → OnOk result (flags.new ≡ more) }
     ensures names { OnOk result (names.new ≡ names.old) }
 {
-    statement(alloc, s, result_type, names, flags, progress, &mut before)?;
-    Ok(shared(alloc, before)?)
+    statement(function, s, names, flags, progress, &mut before)?;
+    Ok(one_statement(function.alloc, before)?)
 }
 
 /// An `if` without `else`.
 #[cycle(statement)]
 fn if_then(
-    alloc: Global,
-    then: &CStatement,
-    place: Place,
-    condition: &CExpr,
-    result_type: &CType,
+    body: &CStatement,
+    parts: Tested<'_>,
     names: &mut Names,
     flags: &mut Flags,
     progress: &mut Progress,
     out: &mut StmtList,
 ) -> Result<(), Halt>
-    ensures exact { (more : List Bool) → flags.old ≡ statement_flags then.now ++ more → Gives (λ u. (out.new, progress.new)) result (appended out.old (statement_lem result_type.now names.old (OfIf place condition.now then.now) progress.old)) }
-    ensures flags { (more : List Bool) → flags.old ≡ statement_flags then.now ++ more → OnOk result (flags.new ≡ more) }
+    ensures exact { (more : List Bool) → flags.old ≡ statement_flags body.now ++ more → Gives (λ u. (out.new, progress.new)) result (put_behind out.old (statement_lem parts.entry.function.result_type.now names.old (OfIf parts.entry.place parts.entry.condition.now body.now) progress.old)) }
+    ensures flags { (more : List Bool) → flags.old ≡ statement_flags body.now ++ more → OnOk result (flags.new ≡ more) }
     ensures names { OnOk result (names.new ≡ names.old) }
 {
-    let test = test(alloc, names, place, condition, progress, out)?;
-    let first = single(
-        alloc,
-        then,
-        result_type,
-        names,
-        flags,
-        progress,
-        Items::new(alloc),
-    )?;
+    let alloc = parts.function.alloc;
+    let test = test(alloc, names, parts.place, parts.condition, progress, out)?;
+    let none = Items::new(alloc);
+    let first = single(parts.function, body, names, flags, progress, none)?;
     let second = Shared::new(alloc, Stmt::Skip)?;
-    push_if(alloc, test.get(), first, second, out)?;
+    push_if(test, first, second, out)?;
     Ok(())
 }
 
-/// The second branch of an `if`, whose test and first branch are there.
+/// The second branch of an `if`.
 #[cycle(statement)]
 fn if_else(
-    alloc: Global,
     otherwise: &CStatement,
-    test: Shared<Expr>,
-    first: Shared<Stmt>,
-    result_type: &CType,
+    made: Unfinished<'_>,
     names: &mut Names,
     flags: &mut Flags,
     progress: &mut Progress,
     out: &mut StmtList,
 ) -> Result<(), Halt>
-    ensures exact { (more : List Bool) → flags.old ≡ statement_flags otherwise.now ++ more → Gives (λ u. (out.new, progress.new)) result (with_else out.old test first (sequenced [] (statement_lem result_type.now names.old otherwise.now progress.old))) }
+    ensures exact { (more : List Bool) → flags.old ≡ statement_flags otherwise.now ++ more → Gives (λ u. (out.new, progress.new)) result (with_else out.old made.entry.test made.entry.first (sequence_behind [] (statement_lem made.entry.function.result_type.now names.old otherwise.now progress.old))) }
     ensures flags { (more : List Bool) → flags.old ≡ statement_flags otherwise.now ++ more → OnOk result (flags.new ≡ more) }
     ensures names { OnOk result (names.new ≡ names.old) }
 {
-    let second = single(
-        alloc,
-        otherwise,
-        result_type,
-        names,
-        flags,
-        progress,
-        Items::new(alloc),
-    )?;
-    push_if(alloc, test.get(), first, second, out)?;
+    let none = Items::new(made.function.alloc);
+    let second = single(made.function, otherwise, names, flags, progress, none)?;
+    made.push(second, out)?;
     Ok(())
 }
 
 /// `while`: the test stands before the body, in the loop.
 #[cycle(statement)]
 fn while_loop(
-    alloc: Global,
     body: &CStatement,
-    place: Place,
-    condition: &CExpr,
-    result_type: &CType,
+    parts: Tested<'_>,
     names: &mut Names,
     flags: &mut Flags,
     progress: &mut Progress,
     out: &mut StmtList,
 ) -> Result<(), Halt>
-    ensures exact { (more : List Bool) → flags.old ≡ statement_flags body.now ++ more → Gives (λ u. (out.new, progress.new)) result (appended out.old (statement_lem result_type.now names.old (OfWhile place condition.now body.now) progress.old)) }
+    ensures exact { (more : List Bool) → flags.old ≡ statement_flags body.now ++ more → Gives (λ u. (out.new, progress.new)) result (put_behind out.old (statement_lem parts.entry.function.result_type.now names.old (OfWhile parts.entry.place parts.entry.condition.now body.now) progress.old)) }
     ensures flags { (more : List Bool) → flags.old ≡ statement_flags body.now ++ more → OnOk result (flags.new ≡ more) }
     ensures names { OnOk result (names.new ≡ names.old) }
 {
+    let alloc = parts.function.alloc;
     let mut inner = Items::new(alloc);
-    loop_test(alloc, names, place, condition, progress, &mut inner)?;
-    let first = single(alloc, body, result_type, names, flags, progress, inner)?;
+    loop_test(
+        alloc,
+        names,
+        parts.place,
+        parts.condition,
+        progress,
+        &mut inner,
+    )?;
+    let first = single(parts.function, body, names, flags, progress, inner)?;
     let second = Shared::new(alloc, Stmt::Skip)?;
     push_loop(first, second, out)?;
     Ok(())
@@ -344,30 +349,21 @@ fn while_loop(
 /// `do`: the test stands behind the body.
 #[cycle(statement)]
 fn do_loop(
-    alloc: Global,
     body: &CStatement,
-    place: Place,
-    condition: &CExpr,
-    result_type: &CType,
+    parts: Tested<'_>,
     names: &mut Names,
     flags: &mut Flags,
     progress: &mut Progress,
     out: &mut StmtList,
 ) -> Result<(), Halt>
-    ensures exact { (more : List Bool) → flags.old ≡ statement_flags body.now ++ more → Gives (λ u. (out.new, progress.new)) result (appended out.old (statement_lem result_type.now names.old (OfDo body.now place condition.now) progress.old)) }
+    ensures exact { (more : List Bool) → flags.old ≡ statement_flags body.now ++ more → Gives (λ u. (out.new, progress.new)) result (put_behind out.old (statement_lem parts.entry.function.result_type.now names.old (OfDo body.now parts.entry.place parts.entry.condition.now) progress.old)) }
     ensures flags { (more : List Bool) → flags.old ≡ statement_flags body.now ++ more → OnOk result (flags.new ≡ more) }
     ensures names { OnOk result (names.new ≡ names.old) }
 {
-    let first = single(
-        alloc,
-        body,
-        result_type,
-        names,
-        flags,
-        progress,
-        Items::new(alloc),
-    )?;
-    let second = test_behind(alloc, names, place, condition, progress)?;
+    let alloc = parts.function.alloc;
+    let none = Items::new(alloc);
+    let first = single(parts.function, body, names, flags, progress, none)?;
+    let second = test_behind(alloc, names, parts.place, parts.condition, progress)?;
     push_loop(first, second, out)?;
     Ok(())
 }
@@ -375,27 +371,30 @@ fn do_loop(
 /// `for`: its parts are elaborated in the order of the text, and the body after the third one.
 #[cycle(statement)]
 fn for_loop(
-    alloc: Global,
-    place: Place,
-    first: &Option<CExpr>,
-    condition: &Option<CExpr>,
-    third: &Option<CExpr>,
     body: &CStatement,
-    result_type: &CType,
+    parts: ForParts<'_>,
     names: &mut Names,
     flags: &mut Flags,
     progress: &mut Progress,
     out: &mut StmtList,
 ) -> Result<(), Halt>
-    ensures exact { (more : List Bool) → flags.old ≡ statement_flags body.now ++ more → Gives (λ u. (out.new, progress.new)) result (appended out.old (statement_lem result_type.now names.old (OfFor place first.now condition.now third.now body.now) progress.old)) }
+    ensures exact { (more : List Bool) → flags.old ≡ statement_flags body.now ++ more → Gives (λ u. (out.new, progress.new)) result (put_behind out.old (statement_lem parts.entry.function.result_type.now names.old (OfFor parts.entry.place parts.entry.first.now parts.entry.condition.now parts.entry.third.now body.now) progress.old)) }
     ensures flags { (more : List Bool) → flags.old ≡ statement_flags body.now ++ more → OnOk result (flags.new ≡ more) }
     ensures names { OnOk result (names.new ≡ names.old) }
 {
-    optional_effect(alloc, names, first, progress, out)?;
+    let alloc = parts.function.alloc;
+    optional_effect(alloc, names, parts.first, progress, out)?;
     let mut inner = Items::new(alloc);
-    optional_test(alloc, names, place, condition, progress, &mut inner)?;
-    let second = effect_behind(alloc, names, third, progress)?;
-    let first = single(alloc, body, result_type, names, flags, progress, inner)?;
+    optional_test(
+        alloc,
+        names,
+        parts.place,
+        parts.condition,
+        progress,
+        &mut inner,
+    )?;
+    let second = effect_behind(alloc, names, parts.third, progress)?;
+    let first = single(parts.function, body, names, flags, progress, inner)?;
     push_loop(first, second, out)?;
     Ok(())
 }
@@ -408,11 +407,11 @@ fn test_behind(
     condition: &CExpr,
     progress: &mut Progress,
 ) -> Result<Shared<Stmt>, Halt>
-    ensures exact { Gives (λ x. (x, progress.new)) result (sequenced [] (loop_test_lem names.now place condition.now progress.old)) }
+    ensures exact { Gives (λ x. (x, progress.new)) result (sequence_behind [] (loop_test_lem names.now place condition.now progress.old)) }
 {
     let mut behind = Items::new(alloc);
     loop_test(alloc, names, place, condition, progress, &mut behind)?;
-    Ok(shared(alloc, behind)?)
+    Ok(one_statement(alloc, behind)?)
 }
 
 /// The effect behind the body of a loop, if there is one.
@@ -422,15 +421,15 @@ fn effect_behind(
     e: &Option<CExpr>,
     progress: &mut Progress,
 ) -> Result<Shared<Stmt>, Halt>
-    ensures exact { Gives (λ x. (x, progress.new)) result (sequenced [] (optional_effect_lem names.now e.now progress.old)) }
+    ensures exact { Gives (λ x. (x, progress.new)) result (sequence_behind [] (optional_effect_lem names.now e.now progress.old)) }
 {
     let mut behind = Items::new(alloc);
     optional_effect(alloc, names, e, progress, &mut behind)?;
-    Ok(shared(alloc, behind)?)
+    Ok(one_statement(alloc, behind)?)
 }
 
 /// One after the other, as one statement.
-fn shared(alloc: Global, statements: StmtList) -> Result<Shared<Stmt>, AllocError>
+fn one_statement(alloc: Global, statements: StmtList) -> Result<Shared<Stmt>, AllocError>
     ensures { IfOk result (λ x. x ≡ sequence_lem statements) }
 {
     Shared::new(alloc, sequence(statements))

@@ -15,5 +15,5 @@ returns-in_err-statements-clause-exact c =
 
 pub returns-clause-exact : goal.returns-clause-exact
 returns-clause-exact c =
-    subst (λ (p : Progress). body_lem c.args.result_type.now (parameter_scope c.args.parameters.now ∷ c.args.names.now) (Block c.args.items.now) p ≡ Ok (c.in_ok-statements.statements, c.translated.new.progress))
+    subst (λ (p : Progress). body_lem c.args.result_type.now (parameter_scope c.args.parameters.now ∷ c.args.names.now) (Block c.args.items.now) p ≡ Ok (c.in_ok-statements.statements, c.body_statements.new.progress))
     c.in_ok-progress.ensures c.in_ok-statements.ensures.exact

@@ -1,5 +1,5 @@
 use Rattle.std.proofs.Common.{◌≡◌, ◌++◌, drop}
-use Rattle.floyd_elab.specs.Parts.{local_names}
+use Rattle.floyd_elab.specs.UnitClauses.{local_names}
 use Rattle.floyd_elab.proofs.bodies.names_of_locals.Given as goal
 
 abbrev pub invariant-parameters : goal.invariant-parameters

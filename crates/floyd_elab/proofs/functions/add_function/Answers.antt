@@ -1,6 +1,6 @@
 use Rattle.std.proofs.Common.{rules, ◌≡◌, ◌++◌, ◌∷◌, [], ap, sym, ◌∙◌}
 use Rattle.floyd_ctypes.specs.declared.ctype.CType.{CType}
-use Rattle.floyd_elab.specs.Parts.{with_function}
+use Rattle.floyd_elab.specs.UnitClauses.{with_function}
 use Rattle.floyd_elab.proofs.ParameterLemmas.{with_function_of}
 use Rattle.floyd_elab.proofs.functions.add_function.Goals as goal
 

@@ -1,7 +1,7 @@
 use Rattle.std.proofs.Common.{◌≡◌, true, false, Bool, Some, if◌then◌else◌, ap, sym, ◌∙◌}
 use Rattle.floyd_elab_names.specs.Declarators.{is_bare as is_bare_lem}
 use Rattle.floyd_elab.specs.Units.{own_parameters as own_parameters_lem}
-use Rattle.floyd_elab.specs.Parts.{names_of}
+use Rattle.floyd_elab.specs.UnitClauses.{names_of}
 use Rattle.floyd_elab.proofs.ParameterLemmas.{own_in_parentheses, own_in_pointer, own_in_array, own_in_function}
 use Rattle.floyd_elab.proofs.parameters.+own_parameters.Goals as goal
 

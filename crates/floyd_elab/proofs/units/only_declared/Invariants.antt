@@ -1,5 +1,5 @@
 use Rattle.std.proofs.Common.{◌≡◌, ◌++◌, length, reverse}
-use Rattle.floyd_elab.specs.Parts.{not_among}
+use Rattle.floyd_elab.specs.UnitClauses.{not_among}
 use Rattle.floyd_elab.proofs.units.only_declared.Given as goal
 
 abbrev pub decreases-mentioned : goal.decreases-mentioned

@@ -1,10 +1,10 @@
 use Rattle.std.proofs.Common.{◌≡◌, ℕ, ◌+◌, ◌-◌, ◌<◌, arith, ◌||◌, List, length, drop, ◌++◌, refl, ap, sym, ◌∙◌, inl, inr}
 use Rattle.std.proofs.Math.Seq.{drop-length}
 use Rattle.std.proofs.lemmas.Result.{on_ok_weaker}
-use Rattle.floyd_elab_addresses.specs.Addresses.{in_expression, in_option, in_declarators, in_statement}
-use Rattle.floyd_elab_addresses.specs.Flags.{declarator_flags, statement_flags}
-use Rattle.floyd_elab_addresses.specs.Parts.{in_item, in_all, flags_of_item, flags_of_all}
-use Rattle.floyd_elab_addresses.specs.Sets.{is_among}
+use Rattle.floyd_elab_addresses.specs.Addresses.{in_expression, in_option, in_statement}
+use Rattle.floyd_elab_addresses.specs.Flags.{statement_flags}
+use Rattle.floyd_elab_addresses.specs.PartClauses.{in_all, flags_of_all}
+use Rattle.floyd_elab_addresses.specs.SetClauses.{is_among}
 use Rattle.floyd_elab_addresses.proofs.Adding.{or-swap, adds_as, adds_then}
 use Rattle.floyd_elab_addresses.proofs.StatementParts.{in-block, flags-block, in-if, in-if_else, in-while, in-do, in-for, flags-if, flags-if_else, flags-while, flags-do, flags-for, flags_of_one, flags_of_two, declaration_in, declaration_flags, statement_in, item_flags_of, in_next_item, flags_next_item}
 use Rattle.floyd_elab_addresses.proofs.statements.+statement.Goals as goal
@@ -223,6 +223,3 @@ block-returns t c =
       taken = λ x. c.items.invariant.taken x ∙ ap (λ n. in_all x (drop n items)) none;
       flags = c.items.invariant.flags ∙ ap (λ n. flags_of_all (drop n items) ++ c.args.flags.now) none;
     }
-
-pub block-same-taken : goal.block-same-taken
-block-same-taken t c = refl

@@ -1,6 +1,6 @@
 use Rattle.std.proofs.Common.{◌≡◌, ℕ, List, ◌++◌, drop}
-use Rattle.floyd_elab_addresses.specs.Parts.{in_all, flags_of_all}
-use Rattle.floyd_elab_addresses.specs.Sets.{is_among}
+use Rattle.floyd_elab_addresses.specs.PartClauses.{in_all, flags_of_all}
+use Rattle.floyd_elab_addresses.specs.SetClauses.{is_among}
 use Rattle.floyd_elab_addresses.proofs.statements.+statement.Given as goal
 
 abbrev pub invariant-block-items : goal.invariant-block-items

@@ -1,5 +1,5 @@
 use Rattle.std.proofs.Common.{◌++◌, append-nil, ap, sym, ◌∙◌}
-use Rattle.floyd_elab_addresses.specs.Parts.{flags_of_all}
+use Rattle.floyd_elab_addresses.specs.PartClauses.{flags_of_all}
 use Rattle.floyd_elab_addresses.proofs.StatementParts.{flags-block}
 use Rattle.floyd_elab_addresses.proofs.statements.block_addresses.Goals as goal
 

@@ -1,8 +1,8 @@
-use Rattle.std.proofs.Common.{◌≡◌, ℕ, ◌||◌, List, [], ◌∷◌, false, if◌then◌else◌, bytes_eq, ap, sym, ◌∙◌}
+use Rattle.std.proofs.Common.{◌≡◌, ℕ, ◌||◌, List, [], ◌∷◌, false, if◌then◌else◌, bytes_eq, ap, ◌∙◌}
 use Rattle.std.proofs.lemmas.Result.{on_ok_weaker}
 use Rattle.floyd_elab_names.specs.Declarators.{name_of, name_or_none}
 use Rattle.floyd_elab_addresses.specs.Addresses.{is_named, in_initialiser}
-use Rattle.floyd_elab_addresses.specs.Sets.{is_among}
+use Rattle.floyd_elab_addresses.specs.SetClauses.{is_among}
 use Rattle.floyd_elab_addresses.proofs.Adding.{flag_first}
 use Rattle.floyd_elab_addresses.proofs.statements.declarator.Goals as goal
 

@@ -1,8 +1,8 @@
-use Rattle.std.proofs.Common.{◌≡◌, ℕ, ◌+◌, ◌-◌, ◌<◌, arith, length, drop, ◌++◌, ap, sym, ◌∙◌}
+use Rattle.std.proofs.Common.{◌≡◌, ◌+◌, ◌-◌, ◌<◌, arith, length, drop, ◌++◌, ap, sym, ◌∙◌}
 use Rattle.std.proofs.Math.Seq.{drop-length}
 use Rattle.floyd_elab_addresses.specs.Addresses.{in_declarators}
 use Rattle.floyd_elab_addresses.specs.Flags.{declarator_flags}
-use Rattle.floyd_elab_addresses.specs.Sets.{is_among}
+use Rattle.floyd_elab_addresses.specs.SetClauses.{is_among}
 use Rattle.floyd_elab_addresses.proofs.StatementParts.{in_next_declarator, flags_next_declarator}
 use Rattle.floyd_elab_addresses.proofs.statements.declarators.Goals as goal
 

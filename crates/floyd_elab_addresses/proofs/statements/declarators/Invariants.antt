@@ -1,7 +1,7 @@
 use Rattle.std.proofs.Common.{◌≡◌, ℕ, List, ◌++◌, drop}
 use Rattle.floyd_elab_addresses.specs.Addresses.{in_declarators}
 use Rattle.floyd_elab_addresses.specs.Flags.{declarator_flags}
-use Rattle.floyd_elab_addresses.specs.Sets.{is_among}
+use Rattle.floyd_elab_addresses.specs.SetClauses.{is_among}
 use Rattle.floyd_elab_addresses.proofs.statements.declarators.Given as goal
 
 abbrev pub invariant-declarators : goal.invariant-declarators

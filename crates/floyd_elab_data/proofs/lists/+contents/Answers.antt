@@ -11,7 +11,7 @@ use Rattle.floyd_elab_names.specs.declared.tags.Tags.{Tags as Kept}
 use Rattle.floyd_elab_names.specs.Types.{array_of}
 use Rattle.floyd_elab_names.proofs.TypeLemmas.{array_is}
 use Rattle.floyd_elab_data.specs.Contents.{contents as contents_lem}
-use Rattle.floyd_elab_data.specs.Items.{listed, nothing_listed}
+use Rattle.floyd_elab_data.specs.ItemClauses.{list_parts, no_parts}
 use Rattle.floyd_elab_data.proofs.ItemLemmas.{IsSoFar, goes_on, stops, listed_stops, contents_listed, nothing_given, field_part, function_scalar, function_parts}
 use Rattle.floyd_elab_data.proofs.lists.+contents.Goals as goal
 
@@ -22,11 +22,11 @@ list_contents-returns-in-Array t c =
     let kept = c.args.tags.now in
     let e = c.in-Array.element in
     let n = c.in-Array.number in
-    let is = ap (λ (x : CType). contents_lem names c.args.place x (i.List c.args.brace items) kept) (c.in-Array.is ∙ array_is e n)
-    ∙ contents_listed names c.args.brace (array_of e n) c.args.place items kept refl in
+    let is = ap (λ (x : CType). contents_lem names c.args.blame.around x (i.List c.args.blame.brace items) kept) (c.in-Array.is ∙ array_is e n)
+    ∙ contents_listed names c.args.blame.brace (array_of e n) c.args.blame.around items kept refl in
     record {
       exact = subst (λ (wanted : Result (Initial × Kept) Refusal). Gives (λ (x : Initial). (x, kept)) c.array_contents.result wanted)
-          (ap (λ (u : CType). listed names c.args.brace (array_of u n) items kept) c.get.ensures ∙ sym is) c.array_contents.ensures.exact;
+          (ap (λ (u : CType). list_parts names c.args.blame.brace (array_of u n) items kept) c.get.ensures ∙ sym is) c.array_contents.ensures.exact;
     }
 
 pub list_contents-returns-in-Struct : goal.list_contents-returns-in-Struct
@@ -34,8 +34,8 @@ list_contents-returns-in-Struct t c =
     let names = c.args.names.now in
     let items = c.args.items.now in
     let kept = c.args.tags.now in
-    let is = ap (λ (x : CType). contents_lem names c.args.place x (i.List c.args.brace items) kept) c.in-Struct.is
-    ∙ contents_listed names c.args.brace (Struct c.in-Struct.tag) c.args.place items kept refl in
+    let is = ap (λ (x : CType). contents_lem names c.args.blame.around x (i.List c.args.blame.brace items) kept) c.in-Struct.is
+    ∙ contents_listed names c.args.blame.brace (Struct c.in-Struct.tag) c.args.blame.around items kept refl in
     record {
       exact = subst (λ (wanted : Result (Initial × Kept) Refusal). Gives (λ (x : Initial). (x, kept)) c.struct_contents.result wanted)
           (sym is) c.struct_contents.ensures.exact;
@@ -46,10 +46,10 @@ list_contents-returns-in-Void t c =
     let names = c.args.names.now in
     let items = c.args.items.now in
     let kept = c.args.tags.now in
-    let all : CType → Result (Initial × Kept) Refusal = λ x. contents_lem names c.args.place x (i.List c.args.brace items) kept in
-    let is : all c.args.t.now ≡ nothing_listed c.args.brace items kept = elim c.in-Void.is [
-      | inl e ↦ ap all e ∙ nothing_given names c.args.brace Void c.args.place items kept refl refl
-      | inr f ↦ ap all f.2 ∙ nothing_given names c.args.brace (Function f.0 f.1) c.args.place items kept (function_scalar f.0 f.1) (function_parts kept.structs f.0 f.1)
+    let all : CType → Result (Initial × Kept) Refusal = λ x. contents_lem names c.args.blame.around x (i.List c.args.blame.brace items) kept in
+    let is : all c.args.t.now ≡ no_parts c.args.blame.brace items kept = elim c.in-Void.is [
+      | inl e ↦ ap all e ∙ nothing_given names c.args.blame.brace Void c.args.blame.around items kept refl refl
+      | inr f ↦ ap all f.2 ∙ nothing_given names c.args.blame.brace (Function f.0 f.1) c.args.blame.around items kept (function_scalar f.0 f.1) (function_parts kept.structs f.0 f.1)
     ] in
     record {
       exact = subst (λ (wanted : Result (Initial × Kept) Refusal). Gives (λ (x : Initial). (x, kept)) c.no_contents.result wanted)

@@ -3,7 +3,7 @@ use Rattle.std.proofs.lemmas.Result.{err_from_is_err_and}
 use Rattle.std.specs.Prelude.{Ok, Some}
 use Rattle.floyd_text.specs.Gives.{Stops}
 use Rattle.floyd_clight.specs.declared.syntax.Stmt.{Call}
-use Rattle.floyd_elab_effects.specs.Calls.{call_with}
+use Rattle.floyd_elab_effects.specs.CallClauses.{call_with}
 use Rattle.floyd_ctypes.specs.declared.ctype.CType.{CType}
 use Rattle.std.specs.Prelude.{ℕ}
 use Rattle.floyd_ctyping.specs.Operators.{value_of_type}
@@ -24,12 +24,12 @@ returns-in_err-x c =
 pub returns : goal.returns
 returns c =
     let p = c.args.progress.now in
-    let q = c.pulled.new.progress in
+    let q = c.draw_temporary.new.progress in
     let x = c.in_ok-x.x in
     record {
-      exact = λ s. result_made s (call_with c.args.out.now c.args.call) x p q c.push_call.new.out c.in_ok-a.a
+      exact = λ s. result_made s (call_with c.args.out.now c.args.call) x p q c.push_call.new.out _
           (subst (λ (t : CType). pull t p ≡ Ok (x, q)) c.in_ok-t.ensures c.in_ok-x.ensures.exact)
           (c.in_ok-push_call.ensures ∙ ap (λ (n : List ℕ). c.args.out.now ++ Call (Some n) c.args.call.callee c.args.call.arguments ∷ []) c.in_ok-name.ensures)
-          (c.in_ok-a.ensures.expr ∙ ap (λ (t : CType). Temp x t) c.in_ok-t.ensures)
-          (c.in_ok-a.ensures.operand ∙ ap value_of_type c.in_ok-t.ensures);
+          (ap (λ (t : CType). Temp x t) (c.in_ok-own.ensures ∙ c.in_ok-t.ensures))
+          (c.value.ensures ∙ ap value_of_type c.in_ok-t.ensures);
     }

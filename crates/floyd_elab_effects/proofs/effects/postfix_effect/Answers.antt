@@ -2,14 +2,13 @@ use Rattle.std.proofs.Common.{subst, sym}
 use Rattle.std.proofs.lemmas.Result.{err_from_is_err_and}
 use Rattle.floyd_text.specs.Gives.{Gives}
 use Rattle.floyd_elab_expressions.specs.Behind.{behind}
-use Rattle.floyd_elab_expressions.proofs.Answering.{shared_as}
 use Rattle.floyd_elab_effects.proofs.EffectLemmas.{postfix_goes, postfix_stops}
 use Rattle.floyd_elab_effects.proofs.effects.postfix_effect.Goals as goal
 
 pub returns-in_err-target : goal.returns-in_err-target
 returns-in_err-target c =
     let r = err_from_is_err_and c.from_residual.result c.from_residual.ensures.1 in
-    record { exact = rw (r.1, r.2) (postfix_stops c.args.names.now c.args.operand.now c.args.op c.args.place c.args.out.now c.args.progress.now c.in_err-target.field-0.0 c.in_err-target.ensures.exact) }
+    record { exact = rw (r.1, r.2) (postfix_stops c.args.names.now c.args.operand.now c.args.step.op c.args.step.place c.args.out.now c.args.progress.now c.in_err-target.field-0.0 c.in_err-target.ensures.exact) }
 
 pub returns : goal.returns
-returns c = record { exact = subst (Gives _ c.stepped.result) (sym (postfix_goes c.args.names.now c.args.operand.now c.args.op c.args.place c.args.out.now (behind c.translated.new.out c.get.result.now) c.args.progress.now c.translated.new.progress (shared_as _ c.translated.new.out c.in_ok-target.target c.get.result.now c.translated.new.progress c.get.ensures c.in_ok-target.ensures.exact))) (c.stepped.ensures.exact) }
+returns c = record { exact = subst (Gives _ c.step_effect.result) (sym (postfix_goes c.args.names.now c.args.operand.now c.args.step.op c.args.step.place c.args.out.now (behind c.expression.new.out c.in_ok-target.target) c.args.progress.now c.expression.new.progress c.in_ok-target.ensures.exact)) (c.step_effect.ensures.exact) }

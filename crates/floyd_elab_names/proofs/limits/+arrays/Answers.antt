@@ -1,7 +1,7 @@
 use Rattle.std.proofs.Common.{◌≡◌, ◌+◌, ◌&&◌, false, get_or, drop, ap, sym, ◌∙◌}
 use Rattle.floyd_ctypes.specs.declared.ctype.CType.{Array}
 use Rattle.floyd_ctypes.specs.Layout.{type_fits}
-use Rattle.floyd_elab_names.specs.Lists.{each_within as each_within_lem}
+use Rattle.floyd_elab_names.specs.ListClauses.{each_within as each_within_lem}
 use Rattle.floyd_elab_names.specs.Types.{arrays_within as arrays_within_lem}
 use Rattle.floyd_elab_names.proofs.LimitLemmas.{within_of_pointer, within_of_array, within_of_function, next_within}
 use Rattle.floyd_elab_names.proofs.limits.+arrays.Goals as goal

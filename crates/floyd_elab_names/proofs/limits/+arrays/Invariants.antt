@@ -1,5 +1,5 @@
 use Rattle.std.proofs.Common.{◌≡◌, drop}
-use Rattle.floyd_elab_names.specs.Lists.{each_within as each_within_lem}
+use Rattle.floyd_elab_names.specs.ListClauses.{each_within as each_within_lem}
 use Rattle.floyd_elab_names.proofs.limits.+arrays.Given as goal
 
 abbrev pub invariant-each_within-types : goal.invariant-each_within-types

@@ -1,6 +1,6 @@
 use Rattle.std.proofs.Common.{◌≡◌, nat_le, ◌+◌, ◌-◌, max, ◌&&◌, false, List, get_or, drop, ap, sym, ◌∙◌}
 use Rattle.floyd_ctypes.specs.declared.ctype.CType.{CType}
-use Rattle.floyd_elab_names.specs.Lists.{most_nesting}
+use Rattle.floyd_elab_names.specs.ListClauses.{most_nesting}
 use Rattle.floyd_elab_names.specs.Types.{nesting}
 use Rattle.floyd_elab_names.proofs.LimitLemmas.{one_less, none_left, both_within, nesting_of_pointer, nesting_of_array, nesting_of_function, next_nested}
 use Rattle.floyd_elab_names.proofs.limits.+nested.Goals as goal

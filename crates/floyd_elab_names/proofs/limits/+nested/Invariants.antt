@@ -1,5 +1,5 @@
 use Rattle.std.proofs.Common.{◌≡◌, ◌+◌, ◌*◌, nat_le, drop}
-use Rattle.floyd_elab_names.specs.Lists.{most_nesting}
+use Rattle.floyd_elab_names.specs.ListClauses.{most_nesting}
 use Rattle.floyd_elab_names.proofs.limits.+nested.Given as goal
 
 abbrev pub invariant-all_nested_within-types : goal.invariant-all_nested_within-types

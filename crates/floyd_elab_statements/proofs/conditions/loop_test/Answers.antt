@@ -1,3 +1,4 @@
+use Rattle.std.proofs.Common.{refl}
 use Rattle.floyd_elab_statements.proofs.Steps.{gives_err}
 use Rattle.floyd_elab_statements.proofs.ConditionLemmas.{loop_test_stops, loop_test_goes}
 use Rattle.floyd_elab_statements.proofs.conditions.loop_test.Goals as goal
@@ -14,6 +15,6 @@ pub returns : goal.returns
 returns c =
     record {
       exact =
-          loop_test_goes c.args.names.now c.args.place c.args.e.now c.args.out.now c.args.progress.now c.test.new.out c.push_break.new.out c.in_ok-test.test c.get.result.now c.test.new.progress
-          c.in_ok-test.ensures.exact c.get.ensures c.in_ok-push_break.ensures;
+          loop_test_goes c.args.names.now c.args.place c.args.e.now c.args.out.now c.args.progress.now c.test.new.out c.push_break.new.out c.in_ok-test.test c.in_ok-test.test c.test.new.progress
+          c.in_ok-test.ensures.exact refl c.in_ok-push_break.ensures;
     }

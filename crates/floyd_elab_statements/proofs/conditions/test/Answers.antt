@@ -1,7 +1,5 @@
-use Rattle.std.proofs.Common.{◌∙◌}
 use Rattle.floyd_elab_expressions.specs.Behind.{behind}
 use Rattle.floyd_elab_statements.proofs.Steps.{gives_as, gives_err}
-use Rattle.floyd_elab_statements.proofs.Walking.{shared_as}
 use Rattle.floyd_elab_statements.proofs.ConditionLemmas.{test_unread, test_read}
 use Rattle.floyd_elab_statements.proofs.conditions.test.Goals as goal
 
@@ -15,12 +13,12 @@ returns-in_err-a c =
 
 pub returns : goal.returns
 returns c =
-    let q = c.valued.new.progress in
-    let out = c.valued.new.out in
-    let a = c.get.result.now in
+    let q = c.rvalue.new.progress in
+    let out = c.rvalue.new.out in
+    let a = c.in_ok-a.a in
     record {
-      exact = gives_as _ c.judged.result _ _
+      exact = gives_as _ c.judge_test.result _ _
           (test_read c.args.names.now c.args.place c.args.e.now c.args.out.now c.args.progress.now (behind out a) q
-          (shared_as _ out c.in_ok-a.a a q (c.get.ensures ∙ c.in_ok-value.ensures) c.in_ok-a.ensures.exact))
-          (c.judged.ensures.exact out q);
+          c.in_ok-a.ensures.exact)
+          (c.judge_test.ensures.exact out q);
     }

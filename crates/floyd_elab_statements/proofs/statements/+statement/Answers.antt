@@ -6,19 +6,19 @@ use Rattle.floyd_text.specs.declared.place.Place.{Place}
 use Rattle.floyd_text.specs.declared.refusal.Refusal.{Refusal}
 use Rattle.floyd_cparse_trees.specs.declared.expressions.CExpr.{CExpr}
 use Rattle.floyd_cparse_trees.specs.declared.statements.CStatement as c_of
-use Rattle.floyd_elab_names.specs.Scopes.{left}
+use Rattle.floyd_elab_names.specs.Scopes.{leave}
 use Rattle.floyd_clight.specs.declared.syntax.Stmt.{Stmt}
 use Rattle.floyd_elab_expressions.specs.declared.progress.Progress.{Progress}
-use Rattle.floyd_elab_expressions.specs.Behind.{appended}
+use Rattle.floyd_elab_expressions.specs.Behind.{put_behind}
 use Rattle.floyd_elab_addresses.specs.Flags.{statement_flags}
-use Rattle.floyd_elab_addresses.specs.Parts.{in_all, flags_of_all, flags_of_item}
+use Rattle.floyd_elab_addresses.specs.PartClauses.{in_all, flags_of_all, flags_of_item}
 use Rattle.floyd_elab_addresses.proofs.StatementParts.{flags-if, flags-if_else, flags-while, flags-do, flags-for, flags-block}
-use Rattle.floyd_elab_statements.specs.LocalParts.{beginning}
+use Rattle.floyd_elab_statements.specs.LocalClauses.{beginning}
 use Rattle.floyd_elab_statements.specs.Statements.{statement, loop_test, optional_test}
-use Rattle.floyd_elab_statements.specs.Walks.{item, all_items, sequenced, with_else}
+use Rattle.floyd_elab_statements.specs.WalkClauses.{item, all_items, sequence_behind, with_else}
 use Rattle.floyd_elab_statements.proofs.Steps.{gives_err, gives_as, stops_as, on_ok, beside_same, appended_none}
 use Rattle.floyd_elab_statements.proofs.Exits.{only_ok}
-use Rattle.floyd_elab_statements.proofs.Walking.{in_empty, empty_stops, sequenced_goes, sequenced_stops, left_same, names_as}
+use Rattle.floyd_elab_statements.proofs.Walking.{in_empty, empty_stops, sequenced_goes, sequenced_stops, outer_same, names_as}
 use Rattle.floyd_elab_statements.proofs.ItemLemmas.{block_is, next_item, stopped_item, flags_first}
 use Rattle.floyd_elab_statements.proofs.StatementLemmas.{if_stops, if_branch_stops, if_goes, if_else_stops, then_stops, then_goes, else_stops, else_goes, while_stops, while_body_stops, while_goes, do_stops, do_test_stops, do_goes, for_stops, for_test_stops, for_third_stops, for_body_stops, for_goes}
 use Rattle.floyd_elab_statements.proofs.statements.+statement.Goals as goal
@@ -32,7 +32,7 @@ statement-returns-in-Block t c =
     let whole : c.args.s.now ≡ c_of.Block all = c.in-Block.is ∙ ap (λ l. c_of.Block l) (sym c.as_slice.ensures) in
     record {
       exact = λ more are.
-          gives_as _ c.block.result _ _ (ap (λ u. appended c.args.out.now (statement c.args.result_type.now c.args.names.now u c.args.progress.now)) whole)
+          gives_as _ c.block.result _ _ (ap (λ u. put_behind c.args.out.now (statement c.args.function.result_type.now c.args.names.now u c.args.progress.now)) whole)
           (c.block.ensures.exact more (are ∙ ap (λ fs. fs ++ more) (ap statement_flags whole ∙ flags-block all)));
       flags = λ more are. c.block.ensures.flags more (are ∙ ap (λ fs. fs ++ more) (ap statement_flags whole ∙ flags-block all));
       names = c.block.ensures.names;
@@ -44,7 +44,7 @@ statement-returns-in-Empty t c =
     let p = c.args.progress.now in
     let out = c.args.out.now in
     record {
-      exact = λ more are. ap (λ u. appended out (statement c.args.result_type.now c.args.names.now u p)) is ∙ appended_none out p;
+      exact = λ more are. ap (λ u. put_behind out (statement c.args.function.result_type.now c.args.names.now u p)) is ∙ appended_none out p;
       flags = λ more are. are ∙ ap (λ u. statement_flags u ++ more) is;
       names = refl;
     }
@@ -53,7 +53,7 @@ pub statement-returns-in-Effect : goal.statement-returns-in-Effect
 statement-returns-in-Effect t c =
     let is = c.in-Effect.is in
     record {
-      exact = λ more are. gives_as _ c.effect.result _ _ (ap (λ u. appended c.args.out.now (statement c.args.result_type.now c.args.names.now u c.args.progress.now)) is) c.effect.ensures.exact;
+      exact = λ more are. gives_as _ c.effect.result _ _ (ap (λ u. put_behind c.args.out.now (statement c.args.function.result_type.now c.args.names.now u c.args.progress.now)) is) c.effect.ensures.exact;
       flags = λ more are. on_ok c.effect.result (are ∙ ap (λ u. statement_flags u ++ more) is);
       names = on_ok c.effect.result refl;
     }
@@ -66,7 +66,7 @@ statement-returns-in-If t c =
     let whole : c.args.s.now ≡ c_of.If place e a = c.in-If.is ∙ ap (λ u. c_of.If place e u) (sym c.get.ensures) in
     record {
       exact = λ more are.
-          gives_as _ c.if_then.result _ _ (ap (λ u. appended c.args.out.now (statement c.args.result_type.now c.args.names.now u c.args.progress.now)) whole)
+          gives_as _ c.if_then.result _ _ (ap (λ u. put_behind c.args.out.now (statement c.args.function.result_type.now c.args.names.now u c.args.progress.now)) whole)
           (c.if_then.ensures.exact more (are ∙ ap (λ fs. fs ++ more) (ap statement_flags whole ∙ flags-if place e a)));
       flags = λ more are. c.if_then.ensures.flags more (are ∙ ap (λ fs. fs ++ more) (ap statement_flags whole ∙ flags-if place e a));
       names = c.if_then.ensures.names;
@@ -83,8 +83,8 @@ statement-returns-in_err-test-in-IfElse t c =
     record {
       exact = λ more are.
           gives_err _ r.result h _ r.ensures.1
-          (stops_as h _ _ (ap (λ u. appended c.args.out.now (statement c.args.result_type.now c.args.names.now u c.args.progress.now)) c.in-IfElse.is)
-          (if_else_stops c.args.result_type.now c.args.names.now c.in-IfElse.place c.in-IfElse.condition c.in-IfElse.then c.in-IfElse.otherwise c.args.out.now c.args.progress.now h c.in_err-test-in-IfElse.ensures.exact));
+          (stops_as h _ _ (ap (λ u. put_behind c.args.out.now (statement c.args.function.result_type.now c.args.names.now u c.args.progress.now)) c.in-IfElse.is)
+          (if_else_stops c.args.function.result_type.now c.args.names.now c.in-IfElse.place c.in-IfElse.condition c.in-IfElse.then c.in-IfElse.otherwise c.args.out.now c.args.progress.now h c.in_err-test-in-IfElse.ensures.exact));
       flags = λ more are. only_ok r.result _ _ r.ensures.1;
       names = only_ok r.result _ _ r.ensures.1;
     }
@@ -102,10 +102,10 @@ statement-returns-in_err-first-in-IfElse t c =
     record {
       exact = λ more are.
           gives_err _ r.result h _ r.ensures.1
-          (stops_as h _ _ (ap (λ u. appended c.args.out.now (statement c.args.result_type.now c.args.names.now u c.args.progress.now)) whole)
-          (then_stops c.args.result_type.now c.args.names.now place e a b c.args.out.now c.args.progress.now
+          (stops_as h _ _ (ap (λ u. put_behind c.args.out.now (statement c.args.function.result_type.now c.args.names.now u c.args.progress.now)) whole)
+          (then_stops c.args.function.result_type.now c.args.names.now place e a b c.args.out.now c.args.progress.now
           c.test.new.out c.in_ok-test-in-IfElse.test q c.in_ok-test-in-IfElse.ensures.exact h
-          (empty_stops (λ l. sequenced l (statement c.args.result_type.now c.args.names.now a q)) c.new.result h c.new.ensures
+          (empty_stops (λ l. sequence_behind l (statement c.args.function.result_type.now c.args.names.now a q)) c.new-none.result h c.new-none.ensures
           (c.in_err-first-in-IfElse.ensures.exact (statement_flags b ++ more) (both_flags c.args.s.now place e a b c.args.flags.now more whole are)))));
       flags = λ more are. only_ok r.result _ _ r.ensures.1;
       names = only_ok r.result _ _ r.ensures.1;
@@ -113,7 +113,7 @@ statement-returns-in_err-first-in-IfElse t c =
 
 pub statement-returns-in_ok-first-in-IfElse : goal.statement-returns-in_ok-first-in-IfElse
 statement-returns-in_ok-first-in-IfElse t c =
-    let result = c.args.result_type.now in
+    let result = c.args.function.result_type.now in
     let names = c.args.names.now in
     let place = c.in-IfElse.place in
     let e = c.in-IfElse.condition in
@@ -127,11 +127,11 @@ statement-returns-in_ok-first-in-IfElse t c =
       exact = λ more are.
           let fits = both_flags c.args.s.now place e a b c.args.flags.now more whole are in
           gives_as _ d.result _ _
-          (ap (λ u. appended c.args.out.now (statement result names u c.args.progress.now)) whole
+          (ap (λ u. put_behind c.args.out.now (statement result names u c.args.progress.now)) whole
           ∙ then_goes result names place e a b c.args.out.now c.args.progress.now c.test.new.out c.in_ok-test-in-IfElse.test q c.in_ok-test-in-IfElse.ensures.exact
           c.in_ok-first-in-IfElse.first y
-          (in_empty (λ l. sequenced l (statement result names a q)) c.new.result _ c.new.ensures (c.in_ok-first-in-IfElse.ensures.exact (statement_flags b ++ more) fits))
-          ∙ ap (λ n. with_else c.test.new.out c.in_ok-test-in-IfElse.test c.in_ok-first-in-IfElse.first (sequenced [] (statement result n b y))) (sym c.in_ok-first-in-IfElse.ensures.names))
+          (in_empty (λ l. sequence_behind l (statement result names a q)) c.new-none.result _ c.new-none.ensures (c.in_ok-first-in-IfElse.ensures.exact (statement_flags b ++ more) fits))
+          ∙ ap (λ n. with_else c.test.new.out c.in_ok-test-in-IfElse.test c.in_ok-first-in-IfElse.first (sequence_behind [] (statement result n b y))) (sym c.in_ok-first-in-IfElse.ensures.names))
           (d.ensures.exact more (c.in_ok-first-in-IfElse.ensures.flags (statement_flags b ++ more) fits));
       flags = λ more are. d.ensures.flags more (c.in_ok-first-in-IfElse.ensures.flags (statement_flags b ++ more) (both_flags c.args.s.now place e a b c.args.flags.now more whole are));
       names = names_as d.result d.new.names c.single.new.names names c.in_ok-first-in-IfElse.ensures.names d.ensures.names;
@@ -145,7 +145,7 @@ statement-returns-in-While t c =
     let whole : c.args.s.now ≡ c_of.While place e a = c.in-While.is ∙ ap (λ u. c_of.While place e u) (sym c.get-in-While.ensures) in
     record {
       exact = λ more are.
-          gives_as _ c.while_loop.result _ _ (ap (λ u. appended c.args.out.now (statement c.args.result_type.now c.args.names.now u c.args.progress.now)) whole)
+          gives_as _ c.while_loop.result _ _ (ap (λ u. put_behind c.args.out.now (statement c.args.function.result_type.now c.args.names.now u c.args.progress.now)) whole)
           (c.while_loop.ensures.exact more (are ∙ ap (λ fs. fs ++ more) (ap statement_flags whole ∙ flags-while place e a)));
       flags = λ more are. c.while_loop.ensures.flags more (are ∙ ap (λ fs. fs ++ more) (ap statement_flags whole ∙ flags-while place e a));
       names = c.while_loop.ensures.names;
@@ -159,7 +159,7 @@ statement-returns-in-Do t c =
     let whole : c.args.s.now ≡ c_of.Do a place e = c.in-Do.is ∙ ap (λ u. c_of.Do u place e) (sym c.get-in-Do.ensures) in
     record {
       exact = λ more are.
-          gives_as _ c.do_loop.result _ _ (ap (λ u. appended c.args.out.now (statement c.args.result_type.now c.args.names.now u c.args.progress.now)) whole)
+          gives_as _ c.do_loop.result _ _ (ap (λ u. put_behind c.args.out.now (statement c.args.function.result_type.now c.args.names.now u c.args.progress.now)) whole)
           (c.do_loop.ensures.exact more (are ∙ ap (λ fs. fs ++ more) (ap statement_flags whole ∙ flags-do a place e)));
       flags = λ more are. c.do_loop.ensures.flags more (are ∙ ap (λ fs. fs ++ more) (ap statement_flags whole ∙ flags-do a place e));
       names = c.do_loop.ensures.names;
@@ -175,7 +175,7 @@ statement-returns-in-For t c =
     let whole : c.args.s.now ≡ c_of.For place first e third a = c.in-For.is ∙ ap (λ u. c_of.For place first e third u) (sym c.get-in-For.ensures) in
     record {
       exact = λ more are.
-          gives_as _ c.for_loop.result _ _ (ap (λ u. appended c.args.out.now (statement c.args.result_type.now c.args.names.now u c.args.progress.now)) whole)
+          gives_as _ c.for_loop.result _ _ (ap (λ u. put_behind c.args.out.now (statement c.args.function.result_type.now c.args.names.now u c.args.progress.now)) whole)
           (c.for_loop.ensures.exact more (are ∙ ap (λ fs. fs ++ more) (ap statement_flags whole ∙ flags-for place first e third a)));
       flags = λ more are. c.for_loop.ensures.flags more (are ∙ ap (λ fs. fs ++ more) (ap statement_flags whole ∙ flags-for place first e third a));
       names = c.for_loop.ensures.names;
@@ -186,7 +186,7 @@ statement-returns-in-Break t c =
     let is = c.in-Break.is in
     let p = c.args.progress.now in
     record {
-      exact = λ more are. gives_as _ c.push_one.result _ _ (ap (λ u. appended c.args.out.now (statement c.args.result_type.now c.args.names.now u p)) is) (c.push_one.ensures.exact p);
+      exact = λ more are. gives_as _ c.push_one.result _ _ (ap (λ u. put_behind c.args.out.now (statement c.args.function.result_type.now c.args.names.now u p)) is) (c.push_one.ensures.exact p);
       flags = λ more are. on_ok c.push_one.result (are ∙ ap (λ u. statement_flags u ++ more) is);
       names = on_ok c.push_one.result refl;
     }
@@ -196,7 +196,7 @@ statement-returns-in-Continue t c =
     let is = c.in-Continue.is in
     let p = c.args.progress.now in
     record {
-      exact = λ more are. gives_as _ c.push_one-in-Continue.result _ _ (ap (λ u. appended c.args.out.now (statement c.args.result_type.now c.args.names.now u p)) is) (c.push_one-in-Continue.ensures.exact p);
+      exact = λ more are. gives_as _ c.push_one-in-Continue.result _ _ (ap (λ u. put_behind c.args.out.now (statement c.args.function.result_type.now c.args.names.now u p)) is) (c.push_one-in-Continue.ensures.exact p);
       flags = λ more are. on_ok c.push_one-in-Continue.result (are ∙ ap (λ u. statement_flags u ++ more) is);
       names = on_ok c.push_one-in-Continue.result refl;
     }
@@ -205,9 +205,9 @@ pub statement-returns-in-Return : goal.statement-returns-in-Return
 statement-returns-in-Return t c =
     let is = c.in-Return.is in
     record {
-      exact = λ more are. gives_as _ c.returned.result _ _ (ap (λ u. appended c.args.out.now (statement c.args.result_type.now c.args.names.now u c.args.progress.now)) is) c.returned.ensures.exact;
-      flags = λ more are. on_ok c.returned.result (are ∙ ap (λ u. statement_flags u ++ more) is);
-      names = on_ok c.returned.result refl;
+      exact = λ more are. gives_as _ c.return_statement.result _ _ (ap (λ u. put_behind c.args.out.now (statement c.args.function.result_type.now c.args.names.now u c.args.progress.now)) is) c.return_statement.ensures.exact;
+      flags = λ more are. on_ok c.return_statement.result (are ∙ ap (λ u. statement_flags u ++ more) is);
+      names = on_ok c.return_statement.result refl;
     }
 
 -- A block.
@@ -219,7 +219,7 @@ block-returns-in_err-all t c =
     record {
       exact = λ more are.
           gives_err _ r.result h _ r.ensures.1
-          (stops_as h _ _ (block_is c.args.result_type.now c.args.names.now c.enter.new.self c.args.items.now c.args.out.now c.args.progress.now c.in_ok-enter.ensures.ok) (c.in_err-all.ensures.exact more are));
+          (stops_as h _ _ (block_is c.args.function.result_type.now c.args.names.now c.enter.new.self c.args.items.now c.args.out.now c.args.progress.now c.in_ok-enter.ensures.ok) (c.in_err-all.ensures.exact more are));
       flags = λ more are. only_ok r.result _ _ r.ensures.1;
       names = only_ok r.result _ _ r.ensures.1;
     }
@@ -228,10 +228,10 @@ pub block-returns : goal.block-returns
 block-returns t c =
     record {
       exact = λ more are.
-          block_is c.args.result_type.now c.args.names.now c.enter.new.self c.args.items.now c.args.out.now c.args.progress.now c.in_ok-enter.ensures.ok
+          block_is c.args.function.result_type.now c.args.names.now c.enter.new.self c.args.items.now c.args.out.now c.args.progress.now c.in_ok-enter.ensures.ok
           ∙ c.in_ok-all.ensures.exact more are;
       flags = λ more are. c.in_ok-all.ensures.flags more are;
-      names = c.leave.ensures ∙ c.in_ok-all.ensures.left ∙ ap left c.in_ok-enter.ensures.ok;
+      names = c.leave.ensures ∙ c.in_ok-all.ensures.left ∙ ap leave c.in_ok-enter.ensures.ok;
     }
 
 -- Items.
@@ -252,8 +252,8 @@ all-items-preserved t c =
       flags = λ more h. c.in_ok-item.ensures.flags (λ x. in_all x rest) (flags_of_all rest ++ more) (flags_first one rest (drop at items) c.items.flags more split (c.items.invariant.flags more h));
       exact = λ more h.
           c.items.invariant.exact more h
-          ∙ ap (λ l. appended c.items.out (all_items c.args.result_type.now c.items.names l c.items.progress)) split
-          ∙ next_item c.args.result_type.now c.items.out c.items.names one rest c.items.progress c.item.new.out c.item.new.names c.item.new.progress
+          ∙ ap (λ l. put_behind c.items.out (all_items c.args.function.result_type.now c.items.names l c.items.progress)) split
+          ∙ next_item c.args.function.result_type.now c.items.out c.items.names one rest c.items.progress c.item.new.out c.item.new.names c.item.new.progress
           (c.in_ok-item.ensures.exact (λ x. in_all x rest) (flags_of_all rest ++ more) (flags_first one rest (drop at items) c.items.flags more split (c.items.invariant.flags more h)));
     }
 
@@ -271,8 +271,8 @@ all-returns-in_err-item t c =
       exact = λ more are.
           gives_err _ r.result h _ r.ensures.1
           (stops_as h _ _
-          (c.items.invariant.exact more are ∙ ap (λ l. appended c.items.out (all_items c.args.result_type.now c.items.names l c.items.progress)) split)
-          (stopped_item c.args.result_type.now c.items.out c.items.names one rest c.items.progress h
+          (c.items.invariant.exact more are ∙ ap (λ l. put_behind c.items.out (all_items c.args.function.result_type.now c.items.names l c.items.progress)) split)
+          (stopped_item c.args.function.result_type.now c.items.out c.items.names one rest c.items.progress h
           (c.in_err-item.ensures.exact (λ x. in_all x rest) (flags_of_all rest ++ more) (flags_first one rest (drop at items) c.items.flags more split (c.items.invariant.flags more are)))));
       flags = λ more are. only_ok r.result _ _ r.ensures.1;
       left = only_ok r.result _ _ r.ensures.1;
@@ -286,7 +286,7 @@ all-returns t c =
     record {
       exact = λ more h.
           c.items.invariant.exact more h
-          ∙ ap (λ l. appended c.items.out (all_items c.args.result_type.now c.items.names l c.items.progress)) done
+          ∙ ap (λ l. put_behind c.items.out (all_items c.args.function.result_type.now c.items.names l c.items.progress)) done
           ∙ ap (λ (l : List Stmt). let made : Result (List Stmt × Progress) Refusal = Ok (l, c.items.progress) in made) (append-nil c.items.out);
       flags = λ more h. c.items.invariant.flags more h ∙ ap (λ l. flags_of_all l ++ more) done;
       left = c.items.invariant.left;
@@ -297,7 +297,7 @@ item-returns-in-Declaration t c =
     let is = c.in-Declaration.is in
     record {
       exact = λ rest more are.
-          gives_as _ c.declaration.result _ _ (ap (λ u. beginning c.args.out.now (item c.args.result_type.now c.args.names.now u rest c.args.progress.now)) is)
+          gives_as _ c.declaration.result _ _ (ap (λ u. beginning c.args.out.now (item c.args.function.result_type.now c.args.names.now u rest c.args.progress.now)) is)
           (c.declaration.ensures.exact rest more (are ∙ ap (λ u. flags_of_item u rest ++ more) is));
       flags = λ rest more are. c.declaration.ensures.flags rest more (are ∙ ap (λ u. flags_of_item u rest ++ more) is);
       left = c.declaration.ensures.left;
@@ -309,12 +309,12 @@ item-returns-in-Statement t c =
     let names = c.args.names.now in
     record {
       exact = λ rest more are.
-          gives_as _ c.statement.result _ _ (ap (λ u. beginning c.args.out.now (item c.args.result_type.now names u rest c.args.progress.now)) is)
-          (beside_same c.statement.result c.args.out.now (statement c.args.result_type.now names c.in-Statement.s c.args.progress.now) c.statement.new.out names c.statement.new.names c.statement.new.progress
+          gives_as _ c.statement.result _ _ (ap (λ u. beginning c.args.out.now (item c.args.function.result_type.now names u rest c.args.progress.now)) is)
+          (beside_same c.statement.result c.args.out.now (statement c.args.function.result_type.now names c.in-Statement.s c.args.progress.now) c.statement.new.out names c.statement.new.names c.statement.new.progress
           c.statement.ensures.names
           (c.statement.ensures.exact more (are ∙ ap (λ u. flags_of_item u rest ++ more) is)));
       flags = λ rest more are. c.statement.ensures.flags more (are ∙ ap (λ u. flags_of_item u rest ++ more) is);
-      left = left_same c.statement.result c.statement.new.names names c.statement.ensures.names;
+      left = outer_same c.statement.result c.statement.new.names names c.statement.ensures.names;
     }
 
 -- A statement as one of Clight.
@@ -324,7 +324,7 @@ single-returns-in_err-statement t c =
     let h = c.in_err-statement.field-0.0 in
     let r = c.from_residual in
     record {
-      exact = λ more are. gives_err _ r.result h _ r.ensures.1 (sequenced_stops h c.args.before (statement c.args.result_type.now c.args.names.now c.args.s.now c.args.progress.now) (c.in_err-statement.ensures.exact more are));
+      exact = λ more are. gives_err _ r.result h _ r.ensures.1 (sequenced_stops h c.args.before (statement c.args.function.result_type.now c.args.names.now c.args.s.now c.args.progress.now) (c.in_err-statement.ensures.exact more are));
       flags = λ more are. only_ok r.result _ _ r.ensures.1;
       names = only_ok r.result _ _ r.ensures.1;
     }
@@ -333,8 +333,8 @@ pub single-returns : goal.single-returns
 single-returns t c =
     record {
       exact = λ more are.
-          sequenced_goes c.args.before c.statement.new.out (statement c.args.result_type.now c.args.names.now c.args.s.now c.args.progress.now) c.statement.new.progress _
-          (c.in_ok-statement.ensures.exact more are) c.in_ok-shared.ensures;
+          sequenced_goes c.args.before c.statement.new.out (statement c.args.function.result_type.now c.args.names.now c.args.s.now c.args.progress.now) c.statement.new.progress _
+          (c.in_ok-statement.ensures.exact more are) c.in_ok-one_statement.ensures;
       flags = λ more are. c.in_ok-statement.ensures.flags more are;
       names = c.in_ok-statement.ensures.names;
     }
@@ -348,7 +348,7 @@ if_then-returns-in_err-test t c =
     record {
       exact = λ more are.
           gives_err _ r.result h _ r.ensures.1
-          (if_stops c.args.result_type.now c.args.names.now c.args.place c.args.condition.now c.args.then.now c.args.out.now c.args.progress.now h c.in_err-test.ensures.exact);
+          (if_stops c.args.parts.function.result_type.now c.args.names.now c.args.parts.place c.args.parts.condition.now c.args.body.now c.args.out.now c.args.progress.now h c.in_err-test.ensures.exact);
       flags = λ more are. only_ok r.result _ _ r.ensures.1;
       names = only_ok r.result _ _ r.ensures.1;
     }
@@ -361,9 +361,9 @@ if_then-returns-in_err-first t c =
     record {
       exact = λ more are.
           gives_err _ r.result h _ r.ensures.1
-          (if_branch_stops c.args.result_type.now c.args.names.now c.args.place c.args.condition.now c.args.then.now c.args.out.now c.args.progress.now
+          (if_branch_stops c.args.parts.function.result_type.now c.args.names.now c.args.parts.place c.args.parts.condition.now c.args.body.now c.args.out.now c.args.progress.now
           c.test.new.out c.in_ok-test.test q c.in_ok-test.ensures.exact h
-          (empty_stops (λ l. sequenced l (statement c.args.result_type.now c.args.names.now c.args.then.now q)) c.new.result h c.new.ensures (c.in_err-first.ensures.exact more are)));
+          (empty_stops (λ l. sequence_behind l (statement c.args.parts.function.result_type.now c.args.names.now c.args.body.now q)) c.new-none.result h c.new-none.ensures (c.in_err-first.ensures.exact more are)));
       flags = λ more are. only_ok r.result _ _ r.ensures.1;
       names = only_ok r.result _ _ r.ensures.1;
     }
@@ -373,11 +373,11 @@ if_then-returns t c =
     let q = c.test.new.progress in
     record {
       exact = λ more are.
-          if_goes c.args.result_type.now c.args.names.now c.args.place c.args.condition.now c.args.then.now c.args.out.now c.args.progress.now
+          if_goes c.args.parts.function.result_type.now c.args.names.now c.args.parts.place c.args.parts.condition.now c.args.body.now c.args.out.now c.args.progress.now
           c.test.new.out c.in_ok-test.test q c.in_ok-test.ensures.exact
-          c.in_ok-first.first c.in_ok-first.first c.in_ok-second.second c.get.result.now c.push_if.new.out c.single.new.progress
-          (in_empty (λ l. sequenced l (statement c.args.result_type.now c.args.names.now c.args.then.now q)) c.new.result _ c.new.ensures (c.in_ok-first.ensures.exact more are))
-          c.get.ensures refl c.in_ok-second.ensures c.in_ok-push_if.ensures;
+          c.in_ok-first.first c.in_ok-first.first c.in_ok-second.second c.in_ok-test.test c.push_if.new.out c.single.new.progress
+          (in_empty (λ l. sequence_behind l (statement c.args.parts.function.result_type.now c.args.names.now c.args.body.now q)) c.new-none.result _ c.new-none.ensures (c.in_ok-first.ensures.exact more are))
+          refl refl c.in_ok-second.ensures c.in_ok-push_if.ensures;
       flags = λ more are. c.in_ok-first.ensures.flags more are;
       names = c.in_ok-first.ensures.names;
     }
@@ -388,24 +388,24 @@ pub if_else-returns-in_err-second : goal.if_else-returns-in_err-second
 if_else-returns-in_err-second t c =
     let h = c.in_err-second.field-0.0 in
     let r = c.from_residual in
-    let b = statement c.args.result_type.now c.args.names.now c.args.otherwise.now c.args.progress.now in
+    let b = statement c.args.made.function.result_type.now c.args.names.now c.args.otherwise.now c.args.progress.now in
     record {
       exact = λ more are.
           gives_err _ r.result h _ r.ensures.1
-          (else_stops h c.args.out.now c.args.test c.args.first (sequenced [] b)
-          (empty_stops (λ l. sequenced l b) c.new.result h c.new.ensures (c.in_err-second.ensures.exact more are)));
+          (else_stops h c.args.out.now c.args.made.test c.args.made.first (sequence_behind [] b)
+          (empty_stops (λ l. sequence_behind l b) c.new-none.result h c.new-none.ensures (c.in_err-second.ensures.exact more are)));
       flags = λ more are. only_ok r.result _ _ r.ensures.1;
       names = only_ok r.result _ _ r.ensures.1;
     }
 
 pub if_else-returns : goal.if_else-returns
 if_else-returns t c =
-    let b = statement c.args.result_type.now c.args.names.now c.args.otherwise.now c.args.progress.now in
+    let b = statement c.args.made.function.result_type.now c.args.names.now c.args.otherwise.now c.args.progress.now in
     record {
       exact = λ more are.
-          else_goes c.args.out.now c.push_if.new.out c.args.test c.get.result.now c.args.first c.in_ok-second.second (sequenced [] b) c.single.new.progress
-          (in_empty (λ l. sequenced l b) c.new.result _ c.new.ensures (c.in_ok-second.ensures.exact more are))
-          c.get.ensures c.in_ok-push_if.ensures;
+          else_goes c.args.out.now c.push.new.out c.args.made.test c.args.made.test c.args.made.first c.in_ok-second.second (sequence_behind [] b) c.single.new.progress
+          (in_empty (λ l. sequence_behind l b) c.new-none.result _ c.new-none.ensures (c.in_ok-second.ensures.exact more are))
+          refl c.in_ok-push.ensures;
       flags = λ more are. c.in_ok-second.ensures.flags more are;
       names = c.in_ok-second.ensures.names;
     }
@@ -416,12 +416,12 @@ pub while_loop-returns-in_err-loop_test : goal.while_loop-returns-in_err-loop_te
 while_loop-returns-in_err-loop_test t c =
     let h = c.in_err-loop_test.field-0.0 in
     let r = c.from_residual in
-    let tested = loop_test c.args.names.now c.args.place c.args.condition.now c.args.progress.now in
+    let whether = loop_test c.args.names.now c.args.parts.place c.args.parts.condition.now c.args.progress.now in
     record {
       exact = λ more are.
           gives_err _ r.result h _ r.ensures.1
-          (while_stops c.args.result_type.now c.args.names.now c.args.place c.args.condition.now c.args.body.now c.args.out.now c.args.progress.now h
-          (empty_stops (λ l. appended l tested) c.new-inner.result h c.new-inner.ensures c.in_err-loop_test.ensures.exact));
+          (while_stops c.args.parts.function.result_type.now c.args.names.now c.args.parts.place c.args.parts.condition.now c.args.body.now c.args.out.now c.args.progress.now h
+          (empty_stops (λ l. put_behind l whether) c.new-inner.result h c.new-inner.ensures c.in_err-loop_test.ensures.exact));
       flags = λ more are. only_ok r.result _ _ r.ensures.1;
       names = only_ok r.result _ _ r.ensures.1;
     }
@@ -430,13 +430,13 @@ pub while_loop-returns-in_err-first : goal.while_loop-returns-in_err-first
 while_loop-returns-in_err-first t c =
     let h = c.in_err-first.field-0.0 in
     let r = c.from_residual-in_err-first in
-    let tested = loop_test c.args.names.now c.args.place c.args.condition.now c.args.progress.now in
+    let whether = loop_test c.args.names.now c.args.parts.place c.args.parts.condition.now c.args.progress.now in
     record {
       exact = λ more are.
           gives_err _ r.result h _ r.ensures.1
-          (while_body_stops c.args.result_type.now c.args.names.now c.args.place c.args.condition.now c.args.body.now c.args.out.now c.args.progress.now
+          (while_body_stops c.args.parts.function.result_type.now c.args.names.now c.args.parts.place c.args.parts.condition.now c.args.body.now c.args.out.now c.args.progress.now
           c.loop_test.new.out c.loop_test.new.progress
-          (in_empty (λ l. appended l tested) c.new-inner.result _ c.new-inner.ensures c.in_ok-loop_test.ensures.exact) h
+          (in_empty (λ l. put_behind l whether) c.new-inner.result _ c.new-inner.ensures c.in_ok-loop_test.ensures.exact) h
           (c.in_err-first.ensures.exact more are));
       flags = λ more are. only_ok r.result _ _ r.ensures.1;
       names = only_ok r.result _ _ r.ensures.1;
@@ -444,12 +444,12 @@ while_loop-returns-in_err-first t c =
 
 pub while_loop-returns : goal.while_loop-returns
 while_loop-returns t c =
-    let tested = loop_test c.args.names.now c.args.place c.args.condition.now c.args.progress.now in
+    let whether = loop_test c.args.names.now c.args.parts.place c.args.parts.condition.now c.args.progress.now in
     record {
       exact = λ more are.
-          while_goes c.args.result_type.now c.args.names.now c.args.place c.args.condition.now c.args.body.now c.args.out.now c.args.progress.now
+          while_goes c.args.parts.function.result_type.now c.args.names.now c.args.parts.place c.args.parts.condition.now c.args.body.now c.args.out.now c.args.progress.now
           c.loop_test.new.out c.loop_test.new.progress
-          (in_empty (λ l. appended l tested) c.new-inner.result _ c.new-inner.ensures c.in_ok-loop_test.ensures.exact)
+          (in_empty (λ l. put_behind l whether) c.new-inner.result _ c.new-inner.ensures c.in_ok-loop_test.ensures.exact)
           c.in_ok-first.first c.in_ok-second.second c.push_loop.new.out c.single.new.progress
           (c.in_ok-first.ensures.exact more are) c.in_ok-second.ensures c.in_ok-push_loop.ensures;
       flags = λ more are. c.in_ok-first.ensures.flags more are;
@@ -465,8 +465,8 @@ do_loop-returns-in_err-first t c =
     record {
       exact = λ more are.
           gives_err _ r.result h _ r.ensures.1
-          (do_stops c.args.result_type.now c.args.names.now c.args.body.now c.args.place c.args.condition.now c.args.out.now c.args.progress.now h
-          (empty_stops (λ l. sequenced l (statement c.args.result_type.now c.args.names.now c.args.body.now c.args.progress.now)) c.new.result h c.new.ensures (c.in_err-first.ensures.exact more are)));
+          (do_stops c.args.parts.function.result_type.now c.args.names.now c.args.body.now c.args.parts.place c.args.parts.condition.now c.args.out.now c.args.progress.now h
+          (empty_stops (λ l. sequence_behind l (statement c.args.parts.function.result_type.now c.args.names.now c.args.body.now c.args.progress.now)) c.new-none.result h c.new-none.ensures (c.in_err-first.ensures.exact more are)));
       flags = λ more are. only_ok r.result _ _ r.ensures.1;
       names = only_ok r.result _ _ r.ensures.1;
     }
@@ -475,32 +475,32 @@ pub do_loop-returns-in_err-second : goal.do_loop-returns-in_err-second
 do_loop-returns-in_err-second t c =
     let h = c.in_err-second.field-0.0 in
     let r = c.from_residual-in_err-second in
-    let result = c.args.result_type.now in
+    let result = c.args.parts.function.result_type.now in
     let names = c.args.names.now in
     let q = c.single.new.progress in
     record {
       exact = λ more are.
           gives_err _ r.result h _ r.ensures.1
-          (do_test_stops result names c.args.body.now c.args.place c.args.condition.now c.args.out.now c.args.progress.now
+          (do_test_stops result names c.args.body.now c.args.parts.place c.args.parts.condition.now c.args.out.now c.args.progress.now
           c.in_ok-first.first q
-          (in_empty (λ l. sequenced l (statement result names c.args.body.now c.args.progress.now)) c.new.result _ c.new.ensures (c.in_ok-first.ensures.exact more are)) h
-          (stops_as h _ _ (ap (λ n. sequenced [] (loop_test n c.args.place c.args.condition.now q)) (sym c.in_ok-first.ensures.names)) c.in_err-second.ensures.exact));
+          (in_empty (λ l. sequence_behind l (statement result names c.args.body.now c.args.progress.now)) c.new-none.result _ c.new-none.ensures (c.in_ok-first.ensures.exact more are)) h
+          (stops_as h _ _ (ap (λ n. sequence_behind [] (loop_test n c.args.parts.place c.args.parts.condition.now q)) (sym c.in_ok-first.ensures.names)) c.in_err-second.ensures.exact));
       flags = λ more are. only_ok r.result _ _ r.ensures.1;
       names = only_ok r.result _ _ r.ensures.1;
     }
 
 pub do_loop-returns : goal.do_loop-returns
 do_loop-returns t c =
-    let result = c.args.result_type.now in
+    let result = c.args.parts.function.result_type.now in
     let names = c.args.names.now in
     let q = c.single.new.progress in
     record {
       exact = λ more are.
-          do_goes result names c.args.body.now c.args.place c.args.condition.now c.args.out.now c.args.progress.now
+          do_goes result names c.args.body.now c.args.parts.place c.args.parts.condition.now c.args.out.now c.args.progress.now
           c.in_ok-first.first q
-          (in_empty (λ l. sequenced l (statement result names c.args.body.now c.args.progress.now)) c.new.result _ c.new.ensures (c.in_ok-first.ensures.exact more are))
+          (in_empty (λ l. sequence_behind l (statement result names c.args.body.now c.args.progress.now)) c.new-none.result _ c.new-none.ensures (c.in_ok-first.ensures.exact more are))
           c.in_ok-second.second c.push_loop.new.out c.test_behind.new.progress
-          (ap (λ n. sequenced [] (loop_test n c.args.place c.args.condition.now q)) (sym c.in_ok-first.ensures.names) ∙ c.in_ok-second.ensures.exact)
+          (ap (λ n. sequence_behind [] (loop_test n c.args.parts.place c.args.parts.condition.now q)) (sym c.in_ok-first.ensures.names) ∙ c.in_ok-second.ensures.exact)
           c.in_ok-push_loop.ensures;
       flags = λ more are. c.in_ok-first.ensures.flags more are;
       names = c.in_ok-first.ensures.names;
@@ -515,7 +515,7 @@ for_loop-returns-in_err-optional_effect t c =
     record {
       exact = λ more are.
           gives_err _ r.result h _ r.ensures.1
-          (for_stops c.args.result_type.now c.args.names.now c.args.place c.args.first.now c.args.condition.now c.args.third.now c.args.body.now c.args.out.now c.args.progress.now h c.in_err-optional_effect.ensures.exact);
+          (for_stops c.args.parts.function.result_type.now c.args.names.now c.args.parts.place c.args.parts.first.now c.args.parts.condition.now c.args.parts.third.now c.args.body.now c.args.out.now c.args.progress.now h c.in_err-optional_effect.ensures.exact);
       flags = λ more are. only_ok r.result _ _ r.ensures.1;
       names = only_ok r.result _ _ r.ensures.1;
     }
@@ -528,9 +528,9 @@ for_loop-returns-in_err-optional_test t c =
     record {
       exact = λ more are.
           gives_err _ r.result h _ r.ensures.1
-          (for_test_stops c.args.result_type.now c.args.names.now c.args.place c.args.first.now c.args.condition.now c.args.third.now c.args.body.now c.args.out.now c.args.progress.now
+          (for_test_stops c.args.parts.function.result_type.now c.args.names.now c.args.parts.place c.args.parts.first.now c.args.parts.condition.now c.args.parts.third.now c.args.body.now c.args.out.now c.args.progress.now
           c.optional_effect.new.out q c.in_ok-optional_effect.ensures.exact h
-          (empty_stops (λ l. appended l (optional_test c.args.names.now c.args.place c.args.condition.now q)) c.new-inner.result h c.new-inner.ensures c.in_err-optional_test.ensures.exact));
+          (empty_stops (λ l. put_behind l (optional_test c.args.names.now c.args.parts.place c.args.parts.condition.now q)) c.new-inner.result h c.new-inner.ensures c.in_err-optional_test.ensures.exact));
       flags = λ more are. only_ok r.result _ _ r.ensures.1;
       names = only_ok r.result _ _ r.ensures.1;
     }
@@ -543,10 +543,10 @@ for_loop-returns-in_err-second t c =
     record {
       exact = λ more are.
           gives_err _ r.result h _ r.ensures.1
-          (for_third_stops c.args.result_type.now c.args.names.now c.args.place c.args.first.now c.args.condition.now c.args.third.now c.args.body.now c.args.out.now c.args.progress.now
+          (for_third_stops c.args.parts.function.result_type.now c.args.names.now c.args.parts.place c.args.parts.first.now c.args.parts.condition.now c.args.parts.third.now c.args.body.now c.args.out.now c.args.progress.now
           c.optional_effect.new.out q c.in_ok-optional_effect.ensures.exact
           c.optional_test.new.out c.optional_test.new.progress
-          (in_empty (λ l. appended l (optional_test c.args.names.now c.args.place c.args.condition.now q)) c.new-inner.result _ c.new-inner.ensures c.in_ok-optional_test.ensures.exact)
+          (in_empty (λ l. put_behind l (optional_test c.args.names.now c.args.parts.place c.args.parts.condition.now q)) c.new-inner.result _ c.new-inner.ensures c.in_ok-optional_test.ensures.exact)
           h c.in_err-second.ensures.exact);
       flags = λ more are. only_ok r.result _ _ r.ensures.1;
       names = only_ok r.result _ _ r.ensures.1;
@@ -560,10 +560,10 @@ for_loop-returns-in_err-first t c =
     record {
       exact = λ more are.
           gives_err _ r.result h _ r.ensures.1
-          (for_body_stops c.args.result_type.now c.args.names.now c.args.place c.args.first.now c.args.condition.now c.args.third.now c.args.body.now c.args.out.now c.args.progress.now
+          (for_body_stops c.args.parts.function.result_type.now c.args.names.now c.args.parts.place c.args.parts.first.now c.args.parts.condition.now c.args.parts.third.now c.args.body.now c.args.out.now c.args.progress.now
           c.optional_effect.new.out q c.in_ok-optional_effect.ensures.exact
           c.optional_test.new.out c.optional_test.new.progress
-          (in_empty (λ l. appended l (optional_test c.args.names.now c.args.place c.args.condition.now q)) c.new-inner.result _ c.new-inner.ensures c.in_ok-optional_test.ensures.exact)
+          (in_empty (λ l. put_behind l (optional_test c.args.names.now c.args.parts.place c.args.parts.condition.now q)) c.new-inner.result _ c.new-inner.ensures c.in_ok-optional_test.ensures.exact)
           c.in_ok-second.second c.effect_behind.new.progress c.in_ok-second.ensures.exact
           h (c.in_err-first.ensures.exact more are));
       flags = λ more are. only_ok r.result _ _ r.ensures.1;
@@ -575,10 +575,10 @@ for_loop-returns t c =
     let q = c.optional_effect.new.progress in
     record {
       exact = λ more are.
-          for_goes c.args.result_type.now c.args.names.now c.args.place c.args.first.now c.args.condition.now c.args.third.now c.args.body.now c.args.out.now c.args.progress.now
+          for_goes c.args.parts.function.result_type.now c.args.names.now c.args.parts.place c.args.parts.first.now c.args.parts.condition.now c.args.parts.third.now c.args.body.now c.args.out.now c.args.progress.now
           c.optional_effect.new.out q c.in_ok-optional_effect.ensures.exact
           c.optional_test.new.out c.optional_test.new.progress
-          (in_empty (λ l. appended l (optional_test c.args.names.now c.args.place c.args.condition.now q)) c.new-inner.result _ c.new-inner.ensures c.in_ok-optional_test.ensures.exact)
+          (in_empty (λ l. put_behind l (optional_test c.args.names.now c.args.parts.place c.args.parts.condition.now q)) c.new-inner.result _ c.new-inner.ensures c.in_ok-optional_test.ensures.exact)
           c.in_ok-second.second c.effect_behind.new.progress c.in_ok-second.ensures.exact
           c.in_ok-first.first c.push_loop.new.out c.single.new.progress
           (c.in_ok-first.ensures.exact more are) c.in_ok-push_loop.ensures;

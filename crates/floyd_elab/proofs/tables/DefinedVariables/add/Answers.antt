@@ -1,5 +1,5 @@
 use Rattle.std.proofs.Common.{rules, ◌≡◌, ◌++◌, ◌∷◌, []}
-use Rattle.floyd_elab.specs.Tables.{AddsName}
+use Rattle.floyd_elab.specs.TableClauses.{AddsName}
 use Rattle.floyd_elab.proofs.TableLemmas.{variable_added}
 use Rattle.floyd_elab.proofs.tables.DefinedVariables.add.Goals as goal
 

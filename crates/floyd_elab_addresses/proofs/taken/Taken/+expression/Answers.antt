@@ -1,8 +1,8 @@
-use Rattle.std.proofs.Common.{◌≡◌, ◌&&◌, ◌||◌, refl, ap, sym, ◌∙◌, inl, inr, drop_of_length-le}
+use Rattle.std.proofs.Common.{◌&&◌, ◌||◌, refl, ap, sym, ◌∙◌, inl, inr, drop_of_length-le}
 use Rattle.std.proofs.lemmas.Result.{on_ok_weaker}
 use Rattle.std.specs.List.{list_any}
 use Rattle.floyd_elab_addresses.specs.Addresses.{ends_in_address, is_variable, in_expression}
-use Rattle.floyd_elab_addresses.specs.Sets.{is_among}
+use Rattle.floyd_elab_addresses.specs.SetClauses.{is_among}
 use Rattle.floyd_elab_addresses.proofs.Adding.{adds_as, adds_then}
 use Rattle.floyd_elab_addresses.proofs.ExpressionParts.{in-parenthesised, in-postfix, in-member, in-index, in-binary, in-assign, one_part, two_parts, three_parts, prefixed_parts, call_parts, any_next}
 use Rattle.floyd_elab_addresses.proofs.taken.Taken.+expression.Goals as goal
@@ -31,18 +31,18 @@ expression-returns-in-PostfixStep t c =
     c.get-in-PostfixStep.ensures))
     c.expression-in-PostfixStep.ensures
 
-pub expression-returns-in_ok-prefixed-in-Prefixed : goal.expression-returns-in_ok-prefixed-in-Prefixed
-expression-returns-in_ok-prefixed-in-Prefixed t c =
+pub expression-returns-in_ok-address-in-Prefixed : goal.expression-returns-in_ok-address-in-Prefixed
+expression-returns-in_ok-address-in-Prefixed t c =
     let e = c.args.e.now in
     let prefixes = c.as_slice.result.now in
     let one = c.get-in-Prefixed.result.now in
     let other = c.get-in-Prefixed-2.result.now in
     on_ok_weaker _
-    (adds_then c.args.self.now c.prefixed.new.self c.expression-in-Prefixed.new.self
+    (adds_then c.args.self.now c.address.new.self c.expression-in-Prefixed.new.self
     (λ x. ends_in_address prefixes && is_variable x one) (λ x. in_expression x other) (λ x. in_expression x e)
     (λ x. prefixed_parts x e c.in-Prefixed.prefixes prefixes c.in-Prefixed.operand one other
     c.in-Prefixed.is c.as_slice.ensures c.get-in-Prefixed.ensures c.get-in-Prefixed-2.ensures)
-    c.in_ok-prefixed-in-Prefixed.ensures)
+    c.in_ok-address-in-Prefixed.ensures)
     c.expression-in-Prefixed.ensures
 
 pub expression-returns-in_ok-expression-in-Call : goal.expression-returns-in_ok-expression-in-Call

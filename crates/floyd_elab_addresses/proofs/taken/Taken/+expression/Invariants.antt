@@ -1,7 +1,7 @@
 use Rattle.std.proofs.Common.{◌≡◌, ℕ, ◌||◌, List, drop}
 use Rattle.std.specs.List.{list_any}
 use Rattle.floyd_elab_addresses.specs.Addresses.{in_expression}
-use Rattle.floyd_elab_addresses.specs.Sets.{is_among}
+use Rattle.floyd_elab_addresses.specs.SetClauses.{is_among}
 use Rattle.floyd_elab_addresses.proofs.taken.Taken.+expression.Given as goal
 
 abbrev pub invariant-arguments-arguments : goal.invariant-arguments-arguments

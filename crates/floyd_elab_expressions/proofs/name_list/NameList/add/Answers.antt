@@ -1,5 +1,5 @@
 use Rattle.std.proofs.Common.{rules, ◌≡◌, ◌+◌, [], ◌∷◌, ◌++◌, sym, subst, count_by, bytes_eq}
-use Rattle.floyd_elab_expressions.specs.Counted.{AreCounted, PutsCount}
+use Rattle.floyd_elab_expressions.specs.CountClauses.{AreCounted, PutsCount}
 use Rattle.floyd_elab_expressions.proofs.Counts.{one_counted}
 use Rattle.floyd_elab_expressions.proofs.name_list.NameList.add.Goals as goal
 

@@ -1,5 +1,5 @@
-use Rattle.std.proofs.Common.{ap, sym, ◌∙◌, count_by, bytes_eq}
-use Rattle.floyd_elab_expressions.specs.Counted.{number_in}
+use Rattle.std.proofs.Common.{ap, ◌∙◌, count_by, bytes_eq}
+use Rattle.floyd_elab_expressions.specs.CountClauses.{number_in}
 use Rattle.floyd_elab_expressions.proofs.name_list.NameList.count.Goals as goal
 
 pub returns-in-Some : goal.returns-in-Some

@@ -3,7 +3,7 @@ use Rattle.indexmap.specs.IndexMap.{get}
 use Rattle.floyd_elab_names.specs.declared.meaning.Meaning.{Meaning}
 use Rattle.floyd_elab_names.specs.declared.names.Change.{Change}
 use Rattle.floyd_elab_names.specs.Scopes.{Scopes, with_meaning}
-use Rattle.floyd_elab_names.specs.Changes.{is_new as is_new_lem}
+use Rattle.floyd_elab_names.specs.ChangeClauses.{is_new as is_new_lem}
 use Rattle.floyd_elab_names.proofs.NameLemmas.{declared_last, kept_again, kept_fresh}
 use Rattle.floyd_elab_names.proofs.names.Names.declare.Goals as goal
 

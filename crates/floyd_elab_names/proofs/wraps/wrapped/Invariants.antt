@@ -1,9 +1,0 @@
-use Rattle.std.proofs.Common.{◌≡◌, length}
-use Rattle.floyd_elab_names.specs.Wraps.{wrapped as wrapped_lem}
-use Rattle.floyd_elab_names.proofs.wraps.wrapped.Given as goal
-
-abbrev pub decreases-wraps : goal.decreases-wraps
-decreases-wraps l = length l.wraps
-
-abbrev pub invariant-wraps : goal.invariant-wraps
-invariant-wraps l = wrapped_lem l.wraps l.t ≡ wrapped_lem l.initial.wraps l.initial.t
