@@ -1,0 +1,3 @@
+pub mod CancelLocals
+pub mod CancelHolds
+pub mod EntailLaws

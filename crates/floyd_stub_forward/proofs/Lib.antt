@@ -1,0 +1,3 @@
+pub mod ForwardLocals
+pub mod ForwardHolds
+pub mod TurnLaws

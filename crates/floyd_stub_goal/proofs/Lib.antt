@@ -1,0 +1,4 @@
+pub mod Lists
+pub mod Conjunctions
+pub mod Truths
+pub mod SideLaws

@@ -1,0 +1,4 @@
+-- The Clight machine.
+pub mod Integers
+pub mod Evaluation
+pub mod Machine

@@ -1,0 +1,2 @@
+//! The Clight machine: definitions alone, which no code runs.
+#![tactic(auto)]

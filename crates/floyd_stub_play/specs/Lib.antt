@@ -1,0 +1,4 @@
+-- What contracts cite.
+pub mod Derivation
+pub mod PlayClauses
+pub mod Rows
