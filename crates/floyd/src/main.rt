@@ -38,7 +38,7 @@ fn main(rt: HostRuntime) -> ExitCode {
         return ExitCode::from(NO_MEMORY);
     };
     let mut sink = OutSink::new(rt.stdout());
-    let mut shelf = FileShelf::new(rt);
+    let mut shelf = FileShelf::new(alloc, rt);
     let status = floyd(alloc, &words, &mut shelf, &mut sink);
     ExitCode::from(status.number())
 }

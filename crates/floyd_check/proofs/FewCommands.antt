@@ -9,8 +9,8 @@ use Rattle.floyd_lex.specs.declared.kinds.FileKind.TheVariants as kind
 use Rattle.floyd_lex.specs.declared.lead.Flaw.{Flaw}
 use Rattle.floyd_lex.specs.Cuts.{Cuts, Outcome, ends, skips, takes, is_long, is_full, refuses, IsCut, answer_at}
 use Rattle.floyd_lex.specs.Token.{Token, TokenList, placed, token_of, tokens_in}
-use Rattle.floyd_check_stub.specs.declared.form.Entry.{Entry}
-use Rattle.floyd_check_stub.specs.declared.form.Script.{Script}
+use Rattle.floyd_stub_goal.specs.declared.script.Command.{Command}
+use Rattle.floyd_stub_goal.specs.declared.script.Proof.{Proof}
 use Rattle.floyd_check_stub.specs.Forms.{IsScript, AreCommands}
 use Rattle.floyd_check.specs.FileReading.{Follows, ReadsTokens, ReadsFile}
 
@@ -33,18 +33,18 @@ tokens_few kind file bytes list cut = by_stop cut.outcome.stop cut.same
         omega (arith, ap (λ (l : TokenList). length l.items) is, length-map cut.outcome.pieces (placed (place_at file bytes)), pieces_few kind bytes cut.cut)
     by_stop (Some s) same = absurd (cc)
 
-commands_few : (ts : List Token) (es : List Entry) (end : Place) → AreCommands ts es end → length es ≤ length ts
+commands_few : (ts : List Token) (es : List Command) (end : Place) → AreCommands ts es end → length es ≤ length ts
 commands_few [] es end h = absurd h
 commands_few (q ∷ ts) [] end h = omega arith
 commands_few (c ∷ []) (e ∷ es) end h = absurd h
 commands_few (c ∷ s ∷ ts) (e ∷ es) end h = omega (arith, commands_few ts es end h.3)
 
-script_few : (ts : List Token) (s : Script) → IsScript ts s → length s.commands ≤ length ts
+script_few : (ts : List Token) (s : Proof) → IsScript ts s → length s.commands ≤ length ts
 script_few [] s h = absurd h
 script_few (p ∷ []) s h = absurd h
-script_few (p ∷ n ∷ ts) s h = omega (arith, commands_few ts s.commands s.end h.2)
+script_few (p ∷ n ∷ ts) s h = omega (arith, commands_few ts s.commands s.end h.3)
 
-pub file_few : (bytes : List ℕ) (s : Script) → ReadsFile IsScript kind.Script 3 bytes (Ok s) → length s.commands ≤ 1000000
+pub file_few : (bytes : List ℕ) (s : Proof) → ReadsFile IsScript kind.Script 3 bytes (Ok s) → length s.commands ≤ 1000000
 file_few bytes s h = by_cut h.first h.is_first h.next
   where
     by_cut : (r : Result TokenList Refusal) → IsCut kind.Script 3 bytes r → Follows (λ list. ReadsTokens IsScript 3 (tokens_in bytes list)) r (Ok s) → length s.commands ≤ 1000000

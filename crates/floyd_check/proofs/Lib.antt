@@ -1,5 +1,9 @@
-pub mod Checking
-pub mod FewCommands
 pub mod OneModule
-pub mod OneVerdict
 pub mod Readings
+pub mod FewCommands
+pub mod Checking
+pub mod OneVerdict
+pub mod HasCut
+pub mod HasReading
+pub mod HasVerdict
+pub mod RefusalFiles

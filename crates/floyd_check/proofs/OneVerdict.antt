@@ -13,11 +13,12 @@ use Rattle.floyd_check_project.specs.declared.module.Module.{Module}
 use Rattle.floyd_check_stub.specs.Forms.{IsSpec, IsScript}
 use Rattle.floyd_check_stub.proofs.SpecForm.{same_spec}
 use Rattle.floyd_check_stub.proofs.ScriptForm.{same_script}
-use Rattle.floyd_elab.specs.Units.{elaborated}
+use Rattle.floyd_elab.specs.Units.{elaboration}
 use Rattle.floyd_check_stub.specs.MainForm.{main_in}
-use Rattle.floyd_check.specs.FileReading.{Follows, Then, ReadsTokens, ReadsFile, ReadsSource, built}
+use Rattle.floyd_stub_soundness.specs.declared.program.MainProgram.{MainProgram}
+use Rattle.floyd_check.specs.FileReading.{Follows, Then, InFile, in_file, ReadsTokens, ReadsFile, ReadsSource, built}
 use Rattle.floyd_check.specs.Loading.{modules_of, loaded}
-use Rattle.floyd_check.specs.Verdict.{Program, judged, Judges, JudgesModules, JudgesFiles, JudgesLoaded, IsVerdict}
+use Rattle.floyd_check.specs.Verdict.{judged, Judges, JudgesThree, JudgesModules, JudgesFiles, JudgesLoaded, IsVerdict}
 
 -- there is one at most
 abbrev IsOne : {X : Type 0} → (X → Type 0) → Type 0
@@ -46,31 +47,53 @@ one_source : (bytes : List ℕ) → IsOne (ReadsSource bytes)
 one_source bytes =
     one_then (IsCut kind.Source 1 bytes) _ (same_answer kind.Source 1 bytes)
     (λ list. one_then (IsRead 1 bytes list) _ (source.one_reading 1 bytes list)
-    (λ tree. one_then (λ unit. unit ≡ elaborated tree) (λ unit v. v ≡ built (main_in unit)) (λ a b h k. h ∙ sym k)
+    (λ tree. one_then (λ unit. unit ≡ elaboration tree) (λ unit v. v ≡ built (main_in unit)) (λ a b h k. h ∙ sym k)
     (λ unit v w h k. h ∙ sym k)))
+
+abbrev err : {X : Type 0} → Refusal → Result X Refusal
+err r = Err r
+
+same_refusal : {X : Type 0} {r s : Refusal} → err {X = X} r ≡ err s → r ≡ s
+same_refusal e = cc
+
+-- where there is one reading at most, there is one in the file
+one_in : {X : Type 0} (file : ℕ) (Reads : Result X Refusal → Type 0) → IsOne Reads → IsOne (InFile file Reads)
+one_in file Reads one (Ok x) (Ok y) h k = one (Ok x) (Ok y) h k
+one_in file Reads one (Ok x) (Err r) h k = absurd (other (one (Ok x) (Err k.0) h k.1))
+  where
+    other : Ok x ≡ Err k.0 → ⊥
+    other e = cc
+one_in file Reads one (Err r) (Ok y) h k = absurd (other (one (Err h.0) (Ok y) h.1 k))
+  where
+    other : Err h.0 ≡ Ok y → ⊥
+    other e = cc
+one_in file Reads one (Err r) (Err s) h k = ap Err (h.2 ∙ ap (in_file file) (same_refusal (one (Err h.0) (Err k.0) h.1 k.1)) ∙ sym k.2)
 
 one_module : (source spec script : List ℕ) → IsOne (Judges source spec script)
 one_module source spec script =
-    one_then (ReadsSource source) _ (one_source source)
-    (λ m. one_then (ReadsFile IsSpec kind.Spec 2 spec) _ (one_file IsSpec kind.Spec 2 spec same_spec)
-    (λ n. one_then (ReadsFile IsScript kind.Script 3 script) (λ s v. v ≡ judged m n s) (one_file IsScript kind.Script 3 script same_script)
-    (λ s v w h k. h ∙ sym k)))
+    one_then (InFile 1 (ReadsSource source)) _ (one_in 1 (ReadsSource source) (one_source source))
+    (λ m. one_then (InFile 2 (ReadsFile IsSpec kind.Spec 2 spec)) _ (one_in 2 (ReadsFile IsSpec kind.Spec 2 spec) (one_file IsSpec kind.Spec 2 spec same_spec))
+    (λ n. one_then (InFile 3 (ReadsFile IsScript kind.Script 3 script)) _ (one_in 3 (ReadsFile IsScript kind.Script 3 script) (one_file IsScript kind.Script 3 script same_script))
+    (λ s. one_in 3 (λ v. v ≡ judged m n s) (λ v w h k. h ∙ sym k))))
 
-one_of_modules : (modules : Result (List Module) Refusal) (files : List (List ℕ)) (v w : Result Program Refusal) → JudgesModules modules files v → JudgesModules modules files w → v ≡ w
+one_of_three : (files : List (List ℕ)) (v w : Result MainProgram Refusal) → JudgesThree files v → JudgesThree files w → v ≡ w
+one_of_three [] v w a b = absurd a
+one_of_three (x ∷ []) v w a b = absurd a
+one_of_three (x ∷ y ∷ []) v w a b = absurd a
+one_of_three (x ∷ y ∷ z ∷ []) v w a b = one_module x y z v w a b
+one_of_three (x ∷ y ∷ z ∷ file ∷ files) v w a b = absurd a
+
+one_of_modules : (modules : Result (List Module) Refusal) (files : List (List ℕ)) (v w : Result MainProgram Refusal) → JudgesModules modules files v → JudgesModules modules files w → v ≡ w
 one_of_modules (Err r) files v w a b = a ∙ sym b
-one_of_modules (Ok modules) [] v w a b = absurd a
-one_of_modules (Ok modules) (x ∷ []) v w a b = absurd a
-one_of_modules (Ok modules) (x ∷ y ∷ []) v w a b = absurd a
-one_of_modules (Ok modules) (x ∷ y ∷ z ∷ []) v w a b = one_module x y z v w a b
-one_of_modules (Ok modules) (x ∷ y ∷ z ∷ file ∷ files) v w a b = absurd a
+one_of_modules (Ok modules) files v w a b = one_of_three files v w a b
 
-one_of_files : (files : List (List ℕ)) (v w : Result Program Refusal) → JudgesFiles files v → JudgesFiles files w → v ≡ w
+one_of_files : (files : List (List ℕ)) (v w : Result MainProgram Refusal) → JudgesFiles files v → JudgesFiles files w → v ≡ w
 one_of_files [] v w a b = absurd a
 one_of_files (project ∷ files) v w a b = one_of_modules (modules_of project) files v w a b
 
-one_of_loaded : (r : Result (List (List ℕ)) Refusal) (v w : Result Program Refusal) → JudgesLoaded r v → JudgesLoaded r w → v ≡ w
+one_of_loaded : (r : Result (List (List ℕ)) Refusal) (v w : Result MainProgram Refusal) → JudgesLoaded r v → JudgesLoaded r w → v ≡ w
 one_of_loaded (Err r) v w a b = a ∙ sym b
 one_of_loaded (Ok files) v w a b = one_of_files files v w a b
 
-pub one_verdict : (held : Files) (name : List ℕ) (v w : Result Program Refusal) → IsVerdict held name v → IsVerdict held name w → v ≡ w
+pub one_verdict : (held : Files) (name : List ℕ) (v w : Result MainProgram Refusal) → IsVerdict held name v → IsVerdict held name w → v ≡ w
 one_verdict held name v w a b = one_of_loaded (loaded held name) v w a b

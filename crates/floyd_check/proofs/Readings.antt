@@ -14,10 +14,10 @@ use Rattle.floyd_cparse.specs.Source as source
 use Rattle.floyd_cparse.specs.Source.{IsRead}
 use Rattle.floyd_clight.specs.declared.syntax.Stmt.{Stmt}
 use Rattle.floyd_clight.specs.declared.unit.ClightUnit.{ClightUnit}
-use Rattle.floyd_elab.specs.Units.{elaborated}
+use Rattle.floyd_elab.specs.Units.{elaboration}
 use Rattle.floyd_check_stub.specs.Forms.{ReadsAs}
 use Rattle.floyd_check_stub.specs.MainForm.{main_in}
-use Rattle.floyd_check.specs.Checked.{Answers}
+use Rattle.floyd_check.specs.CheckedClauses.{Answers}
 use Rattle.floyd_check.specs.FileReading.{Then, ReadsFile, ReadsSource, not_built, built}
 
 module _ {X : Type 0} (Form : List Token → X → Type 0) (kind : FileKind) (file : ℕ) (bytes : List ℕ) where
@@ -47,14 +47,14 @@ module _ (bytes : List ℕ) where
     source_not_read Memory h = tt
 
     module _ (tree : CUnit) (read : IsRead 1 bytes list (Ok tree)) where
-      read_tree : (v : Result (List Stmt) Refusal) → Then (λ unit. unit ≡ elaborated tree) (λ unit w. w ≡ built (main_in unit)) v → ReadsSource bytes v
+      read_tree : (v : Result (List Stmt) Refusal) → Then (λ unit. unit ≡ elaboration tree) (λ unit w. w ≡ built (main_in unit)) v → ReadsSource bytes v
       read_tree v h = record { first = Ok list; is_first = cut; next = record { first = Ok tree; is_first = read; next = h } }
 
       -- it is not elaborated
-      pub source_not_elaborated : (halt : Halt) → Stops halt (elaborated tree) → Answers (ReadsSource bytes) (Err halt)
+      pub source_not_elaborated : (halt : Halt) → Stops halt (elaboration tree) → Answers (ReadsSource bytes) (Err halt)
       source_not_elaborated (Refused r) h = read_tree (Err r) (record { first = Err r; is_first = sym h; next = refl })
       source_not_elaborated Memory h = tt
 
       -- it is elaborated, and the unit is judged
-      pub source_judged : (unit : ClightUnit) (o : Option (List Stmt)) → elaborated tree ≡ Ok unit → o ≡ main_in unit → ReadsSource bytes (built o)
+      pub source_judged : (unit : ClightUnit) (o : Option (List Stmt)) → elaboration tree ≡ Ok unit → o ≡ main_in unit → ReadsSource bytes (built o)
       source_judged unit o h e = read_tree (built o) (record { first = Ok unit; is_first = sym h; next = ap built e })

@@ -1,17 +1,19 @@
 -- What a file reads as, or its first refusal.
 use Rattle.std.specs.Prelude.{◌≡◌, ℕ, List, Option, Some, None, Result, Ok, Err}
+use Rattle.floyd_text.specs.declared.code.Code.TheVariants.{NotBuilt}
 use Rattle.floyd_text.specs.declared.refusal.Refusal.{Refusal}
+use Rattle.floyd_text.specs.declared.refusal.Shown.TheVariants.{Nothing}
 use Rattle.floyd_text.specs.Place.{first_place}
+use Rattle.floyd_text.specs.Refusals.{refusal_at}
 use Rattle.floyd_lex.specs.declared.kinds.FileKind.{FileKind}
 use Rattle.floyd_lex.specs.declared.kinds.FileKind.TheVariants as kind
 use Rattle.floyd_lex.specs.Cuts.{IsCut}
 use Rattle.floyd_lex.specs.Token.{Token, tokens_in}
 use Rattle.floyd_cparse.specs.Source.{IsRead}
 use Rattle.floyd_clight.specs.declared.syntax.Stmt.{Stmt}
-use Rattle.floyd_elab.specs.Units.{elaborated}
+use Rattle.floyd_elab.specs.Units.{elaboration}
 use Rattle.floyd_check_stub.specs.Forms.{ReadsAs}
 use Rattle.floyd_check_stub.specs.MainForm.{main_in}
-use Rattle.floyd_check.specs.Loading.{refused}
 
 -- what comes after what was had, and the refusal where it was not had
 abbrev pub Follows : {X Y : Type 0} → (X → Result Y Refusal → Type 0) → Result X Refusal → Result Y Refusal → Type 0
@@ -24,9 +26,24 @@ pub record Then {X Y : Type 0} (First : Result X Refusal → Type 0) (Next : X �
   pub is_first : First first
   pub next : Follows Next first v
 
+-- the same refusal, at its line and column of the file of this number
+abbrev pub in_file : ℕ → Refusal → Refusal
+in_file file r = record {
+  code = r.code;
+  rule = r.rule;
+  place = record { file = file; line = r.place.line; column = r.place.column };
+  goal = r.goal;
+  shown = r.shown;
+}
+
+-- What a file of this number is read as; its refusal stands in that file.
+abbrev pub InFile : {X : Type 0} → ℕ → (Result X Refusal → Type 0) → Result X Refusal → Type 0
+InFile file Reads (Ok x) = Reads (Ok x)
+InFile file Reads (Err r) = (said : Refusal) × Reads (Err said) × (r ≡ in_file file said)
+
 -- a file of a form that is not built
 abbrev pub not_built : ℕ → Refusal
-not_built file = refused 199 (first_place file)
+not_built file = refusal_at NotBuilt (first_place file) Nothing
 
 -- what the tokens of a file of this number read as, or that they have no form that is built
 abbrev pub ReadsTokens : {X : Type 0} → (List Token → X → Type 0) → ℕ → List Token → Result X Refusal → Type 0
@@ -49,5 +66,5 @@ abbrev pub ReadsSource : List ℕ → Result (List Stmt) Refusal → Type 0
 ReadsSource bytes =
     Then (IsCut kind.Source 1 bytes) (λ list.
     Then (IsRead 1 bytes list) (λ tree.
-    Then (λ unit. unit ≡ elaborated tree) (λ unit v.
+    Then (λ unit. unit ≡ elaboration tree) (λ unit v.
     v ≡ built (main_in unit))))

@@ -1,26 +1,20 @@
 -- The files of a project, as far as they can be had.
 use Rattle.std.specs.Prelude.{ℕ, ◌+◌, nat_le, if◌then◌else◌, List, [], ◌∷◌, length, map, Option, Some, None, Result, Ok, Err}
 use Rattle.std.specs.List.{flat_map}
+use Rattle.floyd_text.specs.declared.code.Code.TheVariants.{MissingFile, FileTooLarge, ProjectTooLarge, NotBuilt}
 use Rattle.floyd_text.specs.declared.place.Place.{Place}
 use Rattle.floyd_text.specs.declared.refusal.Refusal.{Refusal}
-use Rattle.floyd_text.specs.declared.refusal.Rule.TheVariants.{Reading}
 use Rattle.floyd_text.specs.declared.refusal.Shown.TheVariants.{Nothing}
 use Rattle.floyd_text.specs.Place.{place_at, first_place}
-use Rattle.floyd_text.specs.Outside.{Files, file_in}
+use Rattle.floyd_text.specs.Outside.{Files, file_in, max_file}
+use Rattle.floyd_text.specs.Refusals.{refusal_at}
 use Rattle.floyd_check_project.specs.declared.module.FileName.{FileName}
 use Rattle.floyd_check_project.specs.declared.module.Module.{Module}
 use Rattle.floyd_check_project.specs.Project.{project_of}
 
--- the most bytes of a file, and of all files but the project
-abbrev pub max_file : ℕ
-max_file = 4194304
-
+-- the most bytes of all files but the project
 abbrev pub max_files : ℕ
 max_files = 16777216
-
--- a refusal that shows nothing
-abbrev pub refused : ℕ → Place → Refusal
-refused code place = record { code = code; rule = Reading; place = place; goal = 0; shown = Nothing }
 
 -- what comes after what was had
 abbrev pub on_ok : {A B : Type 0} → Result A Refusal → (A → Result B Refusal) → Result B Refusal
@@ -29,12 +23,12 @@ on_ok (Err r) f = Err r
 
 -- the bytes of the file that is named at this place: it may be missing, or too large
 abbrev pub bytes_at : Place → Option (List ℕ) → Result (List ℕ) Refusal
-bytes_at place None = Err (refused 101 place)
-bytes_at place (Some bytes) = if nat_le (length bytes) max_file then Ok bytes else Err (refused 102 place)
+bytes_at place None = Err (refusal_at MissingFile place Nothing)
+bytes_at place (Some bytes) = if nat_le (length bytes) max_file then Ok bytes else Err (refusal_at FileTooLarge place Nothing)
 
 -- the bytes, unless with them all files so far have too many
 abbrev pub within_all : Place → ℕ → List ℕ → Result (List ℕ) Refusal
-within_all place total bytes = if nat_le total max_files then Ok bytes else Err (refused 104 place)
+within_all place total bytes = if nat_le total max_files then Ok bytes else Err (refusal_at ProjectTooLarge place Nothing)
 
 -- the place at which the project file names a file
 abbrev pub named_at : List ℕ → FileName → Place
@@ -61,7 +55,7 @@ files_of m = m.source ∷ m.spec ∷ m.script ∷ []
 abbrev pub built_modules : List Module → Result (List Module) Refusal
 built_modules [] = Ok []
 built_modules (m ∷ []) = Ok (m ∷ [])
-built_modules (m ∷ n ∷ ms) = Err (refused 199 (first_place 0))
+built_modules (m ∷ n ∷ ms) = Err (refusal_at NotBuilt (first_place 0) Nothing)
 
 -- the modules of a project file
 abbrev pub modules_of : List ℕ → Result (List Module) Refusal

@@ -1,49 +1,15 @@
 ghost use Rattle.std.specs.Prelude.{◌≡◌, ◌≤◌, length, All};
-ghost use Rattle.floyd_text.specs.Gives.{Gives};
-ghost use Rattle.floyd_check.specs.Checked.{Checks, ChecksModule, ChecksThree};
-ghost use Rattle.floyd_check.specs.Loading.{max_file};
-ghost use Rattle.floyd_check.specs.Verdict as spec;
+ghost use Rattle.floyd_text.specs.Outside.{max_file};
+ghost use Rattle.floyd_check.specs.Checked.{Checks, ChecksThree};
+ghost use Rattle.floyd_check.specs.CheckedClauses.{ChecksModule};
 ghost use Rattle.floyd_check.specs.Verdict.{AreFiles};
-ghost use Rattle.floyd_goal.specs.Derivation.{main_start, played};
 
 use crate::files::FileList;
 use crate::modules::modules_of;
-use crate::program::{main_name, proof_of, shared_statements, spec_of};
-use crate::reading::{script_in, source_in, spec_in};
-use floyd_check_stub::Script;
-use floyd_clight::StmtList;
-use floyd_goal::start_goal;
-use floyd_play::play;
+use crate::reading::{in_file, script_in, source_in, spec_in};
+use floyd_stub_soundness::{Accepted, MainProgram, accept};
 use floyd_text::{Bytes, Halt, Name};
-use sqlite_items::Items;
 use std::alloc::Global;
-
-/// Names in the order of the project.
-pub type NameList = Items<Name>;
-
-/// A project that was accepted: its name, the names of its functions with a body, the statements of its main, and the
-/// int that main returns.
-#[derive(Drop)]
-pub struct Accepted {
-    pub project: Name,
-    pub proved: NameList,
-    pub statements: StmtList,
-    pub value: u32,
-}
-
-/// Plays the proof of main on the start that its source and its specification give.
-fn judge(alloc: Global, statements: &StmtList, value: u32, script: &Script) -> Result<(), Halt>
-    requires { length script.now.commands ≤ 1000000 }
-    ensures exact { Gives (λ u. u) result (played (spec.proof_of script.now) (main_start statements.now (spec.spec_of value))) }
-{
-    let proof = proof_of(alloc, script)?;
-    let start = start_goal(
-        alloc,
-        shared_statements(alloc, statements.as_slice())?,
-        spec_of(alloc, value)?,
-    )?;
-    play(alloc, &proof, start)
-}
 
 /// Judges the three files of the one module of a project: its source, its specification and its script.
 fn check_module(
@@ -56,27 +22,21 @@ fn check_module(
     requires source { length source.now ≤ max_file }
     requires spec { length spec.now ≤ max_file }
     requires script { length script.now ≤ max_file }
-    ensures { ChecksModule source.now spec.now script.now result }
+    ensures { ChecksModule project.now source.now spec.now script.now result }
 {
-    let statements = source_in(alloc, source)?;
-    let value = spec_in(alloc, spec)?;
-    let proof = script_in(alloc, script)?;
-    judge(alloc, &statements, value, &proof)?;
-    let mut proved = NameList::new(alloc);
-    proved.push(main_name(alloc)?)?;
-    Ok(Accepted {
-        project: project.share()?,
-        proved,
-        statements,
-        value,
-    })
+    let statements = in_file(1, source_in(alloc, source))?;
+    let value = in_file(2, spec_in(alloc, spec))?;
+    let proof = in_file(3, script_in(alloc, script))?;
+    let program = MainProgram { statements, value };
+    in_file(3, accept(alloc, project, program, &proof))
 }
 
-/// Judges the files of the one module of a project.
-fn check_files(alloc: Global, project: &Name, files: &[Bytes]) -> Result<Accepted, Halt>
+/// Judges the files of the one module of the project of that name, whose bytes are given within their limits: those of
+/// its source, its specification and its script. The answers are those of `check_bytes` behind the project file.
+pub fn check_files(alloc: Global, project: &Name, files: &[Bytes]) -> Result<Accepted, Halt>
     requires len { length files.now ≡ 3 }
     requires small { All (λ bytes. length bytes ≤ max_file) files.now }
-    ensures { ChecksThree files.now result }
+    ensures { ChecksThree project.now files.now result }
 {
     check_module(
         alloc,
@@ -96,11 +56,11 @@ fn check_files(alloc: Global, project: &Name, files: &[Bytes]) -> Result<Accepte
 /// Where it answers Ok, the program that the files stand for is sound.
 pub fn check_bytes(alloc: Global, project: &Name, files: &FileList) -> Result<Accepted, Halt>
     requires { AreFiles files.now }
-    ensures { Checks files.now result }
+    ensures { Checks project.now files.now result }
 {
-    let Some((bytes, files)) = files.as_slice().split_first() else {
+    let Some((bytes, others)) = files.as_slice().split_first() else {
         unreachable!()
     };
     modules_of(alloc, bytes.as_slice())?;
-    check_files(alloc, project, files)
+    check_files(alloc, project, others)
 }

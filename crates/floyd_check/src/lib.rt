@@ -5,10 +5,9 @@ mod check;
 mod files;
 mod laws;
 mod modules;
-mod program;
 mod reading;
 
-pub use check::{Accepted, NameList, check_bytes};
+pub use check::{check_bytes, check_files};
 pub use files::FileList;
-pub use laws::one_verdict;
-pub use modules::modules_of;
+pub use laws::{has_cut, has_verdict, one_verdict, refusals_have_files};
+pub use modules::{first_place, modules_of};

@@ -4,24 +4,11 @@ ghost use Rattle.floyd_check.specs.Loading as spec;
 ghost use Rattle.floyd_text.specs.Place as place_spec;
 
 use floyd_check_project::{ModuleList, read_project};
-use floyd_text::{Halt, Place, Refusal, Rule, Shown};
+use floyd_text::{Code, Halt, Place, Refusal, Shown};
 use std::alloc::Global;
 
-/// A refusal that shows nothing.
-pub(crate) fn refused(code: u16, place: Place) -> Refusal
-    ensures { result ≡ spec.refused code place }
-{
-    Refusal {
-        code,
-        rule: Rule::Reading,
-        place,
-        goal: 0,
-        shown: Shown::Nothing,
-    }
-}
-
 /// The first place of a file.
-pub(crate) fn first_place(file: u32) -> Place
+pub fn first_place(file: u32) -> Place
     ensures { result ≡ place_spec.first_place file }
 {
     Place {
@@ -38,7 +25,7 @@ pub fn modules_of(alloc: Global, project: &[u8]) -> Result<ModuleList, Halt>
 {
     let modules = read_project(alloc, project)?;
     if modules.len() > 1 {
-        return Err(Halt::Refused(refused(199, first_place(0))));
+        return Err(Halt::Refused(Refusal::at(Code::NotBuilt, first_place(0), Shown::Nothing)));
     }
     Ok(modules)
 }

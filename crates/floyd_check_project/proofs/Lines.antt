@@ -7,7 +7,7 @@ use Rattle.std.proofs.lemmas.List.Sums.{prefix_len-le-length}
 use Rattle.floyd_text.specs.Place.{is_other}
 use Rattle.floyd_check_project.specs.declared.draft.Expected.{Expected}
 use Rattle.floyd_check_project.specs.declared.module.Module.{Module}
-use Rattle.floyd_check_project.specs.Lines.{Line, lines_from, begun, is_blank, is_comment}
+use Rattle.floyd_check_project.specs.Lines.{Line, lines_from, with_byte, is_blank, is_comment}
 use Rattle.floyd_check_project.specs.Project.{read_lines, on_line, after_line}
 
 abbrev pub line_at : ℕ → List ℕ → Line
@@ -31,9 +31,9 @@ behind_more at n b bs =
 behind_feed : (at b : ℕ) (bs : List ℕ) → behind at 0 (b ∷ bs) ≡ lines_from (at + 1) bs
 behind_feed at b bs = cond-true (ltb 0 (suc (length bs))) _ [] (lt-ltb 0 (suc (length bs)) (omega arith)) ∙ ap (λ (n : ℕ). lines_from n bs) (omega arith)
 
-begun_first : (at b : ℕ) (bs : List ℕ) (ls : List Line) → lines_from (at + 1) bs ≡ line_at (at + 1) (take (prefix_len is_other bs) bs) ∷ ls
-    → begun at b (lines_from (at + 1) bs) ≡ line_at at (b ∷ take (prefix_len is_other bs) bs) ∷ ls
-begun_first at b bs ls e = ap (begun at b) e
+with_byte_first : (at b : ℕ) (bs : List ℕ) (ls : List Line) → lines_from (at + 1) bs ≡ line_at (at + 1) (take (prefix_len is_other bs) bs) ∷ ls
+    → with_byte at b (lines_from (at + 1) bs) ≡ line_at at (b ∷ take (prefix_len is_other bs) bs) ∷ ls
+with_byte_first at b bs ls e = ap (with_byte at b) e
 
 first_line : (at : ℕ) (bytes : List ℕ) → lines_from at bytes ≡ line_at at (take (prefix_len is_other bytes) bytes) ∷ behind at (prefix_len is_other bytes) bytes
 first_line at [] = refl
@@ -41,7 +41,7 @@ first_line at (b ∷ bs) = elim (cases_Bool (eqb b 10)) [
   | inl e ↦ rw e (ap (λ (ls : List Line). line_at at [] ∷ ls) (sym (behind_feed at b bs)))
   | inr e ↦
       let one : 1 + prefix_len is_other bs ≡ suc (prefix_len is_other bs) = omega arith in
-      rw (e, one) (begun_first at b bs _ (first_line (at + 1) bs) ∙ ap (λ (ls : List Line). line_at at (b ∷ take (prefix_len is_other bs) bs) ∷ ls) (behind_more at (prefix_len is_other bs) b bs))
+      rw (e, one) (with_byte_first at b bs _ (first_line (at + 1) bs) ∙ ap (λ (ls : List Line). line_at at (b ∷ take (prefix_len is_other bs) bs) ∷ ls) (behind_more at (prefix_len is_other bs) b bs))
 ]
 
 -- the lines that begin at this offset or behind it, none where it lies behind the end

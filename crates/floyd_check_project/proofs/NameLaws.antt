@@ -6,7 +6,7 @@ use Rattle.floyd_check_project.specs.declared.module.Module.{Module}
 use Rattle.floyd_check_project.specs.Lines.{Line, lines_from, is_blank, is_comment, is_file_name}
 use Rattle.floyd_check_project.specs.declared.draft.Expected.{Expected}
 use Rattle.floyd_check_project.specs.declared.draft.Expected.TheVariants.{AModule, ASource, ASpec, AScript}
-use Rattle.floyd_check_project.specs.Project.{name_after, may_begin, begun_module, file_if, file_after, with_source, with_spec, with_script, after_line, at_end, on_line, read_lines, bad_project, project_of}
+use Rattle.floyd_check_project.specs.Project.{name_after, may_begin, new_module, file_if, file_after, with_source, with_spec, with_script, after_line, at_end, on_line, read_lines, bad_project, project_of}
 
 abbrev pub IsNamed : FileName → Type 0
 IsNamed f = is_file_name f.name ≡ true
@@ -38,13 +38,13 @@ file_if_named : (at : ℕ) (o : Option (List ℕ)) → NamedIf (file_if at o)
 file_if_named at None = tt
 file_if_named at (Some name) = file_if_test at name (is_file_name name) refl
 
-begun_test : (modules : List Module) (name : List ℕ) (b : Bool) → AllNamed modules → FineAfter (cond b (Some (ASource name, modules)) None)
-begun_test modules name true named = (tt, named)
-begun_test modules name false named = tt
+new_module_test : (modules : List Module) (name : List ℕ) (b : Bool) → AllNamed modules → FineAfter (cond b (Some (ASource name, modules)) None)
+new_module_test modules name true named = (tt, named)
+new_module_test modules name false named = tt
 
-begun_fine : (modules : List Module) (o : Option (List ℕ)) → AllNamed modules → FineAfter (begun_module modules o)
-begun_fine modules None named = tt
-begun_fine modules (Some name) named = begun_test modules name (may_begin modules name) named
+new_module_fine : (modules : List Module) (o : Option (List ℕ)) → AllNamed modules → FineAfter (new_module modules o)
+new_module_fine modules None named = tt
+new_module_fine modules (Some name) named = new_module_test modules name (may_begin modules name) named
 
 source_fine : (name : List ℕ) (modules : List Module) (o : Option FileName) → AllNamed modules → NamedIf o → FineAfter (with_source name modules o)
 source_fine name modules None named f = tt
@@ -63,7 +63,7 @@ script_fine name source spec modules None s p named f = tt
 script_fine name source spec modules (Some script) s p named f = (tt, named_more modules _ named s p f)
 
 after_line_fine : (e : Expected) (modules : List Module) (l : Line) → Fine e → AllNamed modules → FineAfter (after_line e modules l)
-after_line_fine AModule modules l fine named = begun_fine modules (name_after (codes "module") l.bytes) named
+after_line_fine AModule modules l fine named = new_module_fine modules (name_after (codes "module") l.bytes) named
 after_line_fine (ASource name) modules l fine named =
     source_fine name modules (file_after (codes "source") l) named (file_if_named _ (name_after (codes "source") l.bytes))
 after_line_fine (ASpec name source) modules l fine named =

@@ -8,9 +8,9 @@ pub record Line : Type 0 where
   pub bytes : List ℕ
 
 -- the lines with a byte put before the first, which then begins at `at`
-abbrev pub begun : ℕ → ℕ → List Line → List Line
-begun at b [] = []
-begun at b (l ∷ ls) = record { at = at; bytes = b ∷ l.bytes } ∷ ls
+abbrev pub with_byte : ℕ → ℕ → List Line → List Line
+with_byte at b [] = []
+with_byte at b (l ∷ ls) = record { at = at; bytes = b ∷ l.bytes } ∷ ls
 
 -- the lines of a text whose first byte has this offset; what stands after the last line feed is a line too
 abbrev pub lines_from : ℕ → List ℕ → List Line
@@ -18,7 +18,7 @@ lines_from at [] = record { at = at; bytes = [] } ∷ []
 lines_from at (b ∷ bs) =
     if b == 10
     then record { at = at; bytes = [] } ∷ lines_from (at + 1) bs
-    else begun at b (lines_from (at + 1) bs)
+    else with_byte at b (lines_from (at + 1) bs)
 
 -- nothing but spaces and tabs
 abbrev pub is_blank : List ℕ → Bool

@@ -2,9 +2,10 @@
 use Rattle.std.specs.Prelude.{ℕ, Bool, ◌+◌, ◌&&◌, ◌||◌, not, nat_lt, nat_eq, bytes_eq, if◌then◌else◌, List, [], ◌∷◌, ◌++◌, length, drop, Option, Some, None, Result, Ok, Err, codes}
 use Rattle.std.specs.List.{list_any, starts_with}
 use Rattle.floyd_text.specs.declared.refusal.Refusal.{Refusal}
-use Rattle.floyd_text.specs.declared.refusal.Rule.TheVariants.{Reading}
+use Rattle.floyd_text.specs.declared.code.Code.TheVariants.{BadProject}
 use Rattle.floyd_text.specs.declared.refusal.Shown.TheVariants.{Nothing}
 use Rattle.floyd_text.specs.Place.{place_at}
+use Rattle.floyd_text.specs.Refusals.{refusal_at}
 use Rattle.floyd_check_project.specs.declared.draft.Expected.{Expected}
 use Rattle.floyd_check_project.specs.declared.draft.Expected.TheVariants.{AModule, ASource, ASpec, AScript}
 use Rattle.floyd_check_project.specs.declared.module.FileName.{FileName}
@@ -21,9 +22,9 @@ abbrev pub may_begin : List Module → List ℕ → Bool
 may_begin modules name =
     is_identifier name && not (list_any (λ (m : Module). bytes_eq m.name name) modules) && nat_lt (length modules) 64
 
-abbrev pub begun_module : List Module → Option (List ℕ) → Option (Expected × List Module)
-begun_module modules None = None
-begun_module modules (Some name) = if may_begin modules name then Some (ASource name, modules) else None
+abbrev pub new_module : List Module → Option (List ℕ) → Option (Expected × List Module)
+new_module modules None = None
+new_module modules (Some name) = if may_begin modules name then Some (ASource name, modules) else None
 
 -- the file that a line names after this word
 abbrev pub file_if : ℕ → Option (List ℕ) → Option FileName
@@ -49,7 +50,7 @@ with_script name source spec modules (Some script) =
 -- what is expected after a line that is neither blank nor a comment, and the modules so far; none where the line is
 -- not what was expected
 abbrev pub after_line : Expected → List Module → Line → Option (Expected × List Module)
-after_line AModule modules line = begun_module modules (name_after (codes "module") line.bytes)
+after_line AModule modules line = new_module modules (name_after (codes "module") line.bytes)
 after_line (ASource name) modules line = with_source name modules (file_after (codes "source") line)
 after_line (ASpec name source) modules line = with_spec name source modules (file_after (codes "spec") line)
 after_line (AScript name source spec) modules line = with_script name source spec modules (file_after (codes "script") line)
@@ -77,7 +78,7 @@ read_lines end (l ∷ ls) expected modules =
 -- BadProject at this offset of the project file
 abbrev pub bad_project : List ℕ → Result (List Module) ℕ → Result (List Module) Refusal
 bad_project bytes (Ok modules) = Ok modules
-bad_project bytes (Err at) = Err (record { code = 103; rule = Reading; place = place_at 0 bytes at; goal = 0; shown = Nothing })
+bad_project bytes (Err at) = Err (refusal_at BadProject (place_at 0 bytes at) Nothing)
 
 -- the modules of a project file, or its refusal
 abbrev pub project_of : List ℕ → Result (List Module) Refusal

@@ -3,10 +3,10 @@ ghost use Rattle.std.specs.Prelude.{◌≡◌, ◌≤◌, length, Err};
 ghost use Rattle.floyd_text.specs.Gives.{Gives};
 ghost use Rattle.floyd_check_project.specs.Project.{bad_project, project_of};
 
-use crate::draft::{Expected, after_any_line, at_end};
+use crate::draft::Expected;
 use crate::line::line_end;
 use crate::module::ModuleList;
-use floyd_text::{Halt, Refusal, Rule, Shown, place_of};
+use floyd_text::{Code, Halt, Refusal, Shown, place_of};
 use sqlite_items::Items;
 use std::alloc::Global;
 
@@ -23,13 +23,13 @@ pub fn read_project(alloc: Global, bytes: &[u8]) -> Result<ModuleList, Halt>
     let mut at = 0;
     'lines: while at <= bytes.len() {
         let end = line_end(bytes, at);
-        expected = match after_any_line(alloc, expected, &mut modules, at, &bytes[at..end])? {
+        expected = match expected.after_any_line(alloc, &mut modules, at, &bytes[at..end])? {
             Some(next) => next,
             None => return Err(Halt::Refused(bad_project(bytes, at))),
         };
         at = end + 1;
     }
-    match at_end(bytes.len(), expected, modules) {
+    match expected.at_end(bytes.len(), modules) {
         Ok(modules) => Ok(modules),
         Err(at) => Err(Halt::Refused(bad_project(bytes, at))),
     }
@@ -40,11 +40,5 @@ fn bad_project(bytes: &[u8], at: usize) -> Refusal
     requires { at ≤ length bytes.now }
     ensures { bad_project bytes.now (Err at) ≡ Err result }
 {
-    Refusal {
-        code: 103,
-        rule: Rule::Reading,
-        place: place_of(0, bytes, at),
-        goal: 0,
-        shown: Shown::Nothing,
-    }
+    Refusal::at(Code::BadProject, place_of(0, bytes, at), Shown::Nothing)
 }

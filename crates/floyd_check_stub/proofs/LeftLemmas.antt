@@ -6,7 +6,7 @@ use Rattle.std.proofs.lemmas.Option.{get_or_from_slice_get, slice_get_within, sa
 use Rattle.floyd_text.specs.declared.place.Place.{Place}
 use Rattle.floyd_lex.specs.Token.{Token, TokenList, Lexeme, text_of, token_of, tokens_in}
 use Rattle.floyd_check_stub.specs.Forms.{texts}
-use Rattle.floyd_check_stub.specs.Left.{Begins, IsPlaced}
+use Rattle.floyd_check_stub.specs.LeftClauses.{Begins, IsPlaced}
 
 module _ (bytes : List ℕ) (list : TokenList) (at : ℕ) where
   abbrev pub here : List Token

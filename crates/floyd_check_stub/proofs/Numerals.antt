@@ -9,7 +9,7 @@ use Rattle.std.proofs.lemmas.List.Sums.{AllPass-from_list_all}
 use Rattle.std.proofs.lemmas.Bool.{cases_Bool, and_parts, and_from, leb-true, le-leb, eqb-true, not_from_false, false_from_ne_true, false≢true, cases_eq, le-ltb, lt-ltb, lt-leb}
 use Rattle.std.proofs.lemmas.Fmt.{digits_decimal, digits_value-decimal, decimal-digits_value, decimal_nonempty, first_decimal, decimal_digit}
 use Rattle.std.proofs.lemmas.Str.Parse.{IsNumeralModel, IsDigitsTest, numerals_by_value, digits_value-take-le}
-use Rattle.floyd_check_stub.specs.Reading.{is_digit, is_numeral, small, int_of}
+use Rattle.floyd_check_stub.specs.ReadingClauses.{is_digit, is_numeral, small, int_of}
 
 abbrev are_digits : List ℕ → Type 0
 are_digits ds = list_all is_digit ds ≡ true

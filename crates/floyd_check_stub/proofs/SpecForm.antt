@@ -4,7 +4,7 @@ use Rattle.std.specs.Fmt.{decimal}
 use Rattle.std.proofs.lemmas.Bool.{cases_Bool, false≢true}
 use Rattle.floyd_lex.specs.Token.{Token}
 use Rattle.floyd_check_stub.specs.Forms.{ReadsAs, IsSpec, spec_texts, texts}
-use Rattle.floyd_check_stub.specs.Reading.{after_all, spec_head, spec_end, is_end, spec_after, spec_of}
+use Rattle.floyd_check_stub.specs.ReadingClauses.{after_all, spec_head, spec_end, is_end, spec_after, spec_of}
 use Rattle.floyd_check_stub.proofs.Numerals.{int_read, int_given}
 use Rattle.floyd_check_stub.proofs.Texts.{after_read, after_given, nil_is}
 

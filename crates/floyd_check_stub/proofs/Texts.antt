@@ -2,7 +2,7 @@
 use Rattle.std.proofs.Common.{◌≡◌, ℕ, ◌<◌, true, List, [], ◌∷◌, ◌++◌, length, map, refl, arith, inl, inr, Some, None, bytes_eq}
 use Rattle.std.proofs.lemmas.Bool.{cases_Bool, false≢true}
 use Rattle.std.proofs.lemmas.Slice.Eq.{bytes_eq-Decides}
-use Rattle.floyd_check_stub.specs.Reading.{after_all, is_nil}
+use Rattle.floyd_check_stub.specs.ReadingClauses.{after_all, is_nil}
 
 pub same : (xs ys : List ℕ) → bytes_eq xs ys ≡ true → xs ≡ ys
 same xs ys = (bytes_eq-Decides xs ys).0

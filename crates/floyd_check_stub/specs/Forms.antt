@@ -1,12 +1,12 @@
 -- The forms of a specification and a script, as relations on the tokens of a file.
 use Rattle.std.specs.Prelude.{◌≡◌, ℕ, ◌≤◌, bytes_eq, List, [], ◌∷◌, ◌++◌, map, codes, if◌then◌else◌, Option, Some, None}
 use Rattle.std.specs.Fmt.{decimal}
-use Rattle.floyd_text.specs.declared.refusal.Rule.TheVariants.{Forward, Cancel}
-use Rattle.floyd_text.specs.declared.refusal.Rule.{Rule}
+use Rattle.floyd_text.specs.declared.rule.Rule.TheVariants.{Forward, Cancel}
+use Rattle.floyd_text.specs.declared.rule.Rule.{Rule}
 use Rattle.floyd_text.specs.declared.place.Place.{Place}
 use Rattle.floyd_lex.specs.Token.{Token}
-use Rattle.floyd_check_stub.specs.declared.form.Entry.{Entry}
-use Rattle.floyd_check_stub.specs.declared.form.Script.{Script}
+use Rattle.floyd_stub_goal.specs.declared.script.Command.{Command}
+use Rattle.floyd_stub_goal.specs.declared.script.Proof.{Proof}
 
 -- the texts of tokens
 abbrev pub texts : List Token → List (List ℕ)
@@ -29,19 +29,19 @@ rule_of word =
     if bytes_eq word (codes "forward") then Some Forward else (if bytes_eq word (codes "cancel") then Some Cancel else None)
 
 -- The tokens are these commands at their places, each with its `;`, and then `QED` at this place.
-abbrev pub AreCommands : List Token → List Entry → Place → Type 0
+abbrev pub AreCommands : List Token → List Command → Place → Type 0
 AreCommands [] entries end = ⊥
 AreCommands (q ∷ ts) [] end = (ts ≡ []) × (q.text ≡ codes "QED") × (end ≡ q.place)
 AreCommands (c ∷ []) (e ∷ es) end = ⊥
 AreCommands (c ∷ s ∷ ts) (e ∷ es) end =
     (rule_of c.text ≡ Some e.rule) × (e.place ≡ c.place) × (s.text ≡ codes ";") × AreCommands ts es end
 
--- the tokens are this script: `PROOF main`, its commands, `QED`
-abbrev pub IsScript : List Token → Script → Type 0
+-- the tokens are the script that has this proof alone: `PROOF main`, its commands, `QED`
+abbrev pub IsScript : List Token → Proof → Type 0
 IsScript [] script = ⊥
 IsScript (proof ∷ []) script = ⊥
 IsScript (proof ∷ name ∷ ts) script =
-    (proof.text ≡ codes "PROOF") × (name.text ≡ codes "main") × AreCommands ts script.commands script.end
+    (proof.text ≡ codes "PROOF") × (name.text ≡ codes "main") × (script.name ≡ codes "main") × AreCommands ts script.commands script.end
 
 -- what tokens read as: what the relation holds of, or none where it holds of nothing
 abbrev pub ReadsAs : {X : Type 0} → (X → Type 0) → Option X → Type 0

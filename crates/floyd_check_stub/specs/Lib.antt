@@ -1,4 +1,5 @@
+-- What contracts cite.
 pub mod Forms
-pub mod Left
+pub mod LeftClauses
 pub mod MainForm
-pub mod Reading
+pub mod ReadingClauses

@@ -13,7 +13,7 @@ use Rattle.floyd_clight.specs.declared.unit.ClightUnit.{ClightUnit}
 use Rattle.floyd_clight.specs.declared.unit.Declared.{Declared}
 use Rattle.floyd_clight.specs.declared.unit.Defined.{Defined}
 use Rattle.floyd_clight.specs.declared.unit.Local.{Local}
-use Rattle.floyd_clight.specs.Evaluation.{Ident}
+use Rattle.floyd_stub_machine.specs.Evaluation.{Ident}
 use Rattle.floyd_clight.specs.Flat.{flat}
 
 abbrev pub is_int_kind : IntKind → Bool

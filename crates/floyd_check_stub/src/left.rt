@@ -2,7 +2,7 @@
 ghost use Rattle.std.specs.Prelude.{◌≡◌, [], ◌∷◌, drop, MatchOption, IfSome};
 ghost use Rattle.floyd_lex.specs.Token.{tokens_in};
 ghost use Rattle.floyd_check_stub.specs.Forms.{texts};
-ghost use Rattle.floyd_check_stub.specs.Left.{left, Begins, IsPlaced};
+ghost use Rattle.floyd_check_stub.specs.LeftClauses.{left, Begins, IsPlaced};
 
 use floyd_lex::Tokens;
 use floyd_text::Place;
@@ -31,7 +31,7 @@ pub struct Placed<'a> {
 }
 
 /// All the tokens of a file with these bytes.
-#[tactic(auto, unfolding(crate::specs::Left::left))]
+#[tactic(auto, unfolding(crate::specs::LeftClauses::left))]
 pub fn all_of<'a>(bytes: &'a [u8], tokens: &'a Tokens) -> Left<'a>
     ensures { left result ≡ tokens_in bytes.now tokens.now }
 {
@@ -72,7 +72,7 @@ pub fn placed_token(tokens: Left<'_>) -> Option<Placed<'_>>
 }
 
 /// The tokens of the same file from the one at `at` on.
-#[tactic(auto, unfolding(crate::specs::Left::left))]
+#[tactic(auto, unfolding(crate::specs::LeftClauses::left))]
 fn from_on(tokens: Left<'_>, at: usize) -> Left<'_>
     ensures { left result ≡ drop at (tokens_in tokens.entry.bytes.now tokens.entry.tokens.now) }
 {

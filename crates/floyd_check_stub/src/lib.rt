@@ -2,14 +2,12 @@
 //! specification, and its script.
 #![tactic(auto)]
 
-mod form;
 mod left;
 mod mains;
 mod scripts;
 mod specifications;
 mod word;
 
-pub use form::{Entry, Script};
 pub use mains::main_in;
 pub use scripts::{one_script, read_script};
 pub use specifications::{one_spec, read_spec};

@@ -1,16 +1,15 @@
 //! The script of a proof of `main`.
-ghost use Rattle.std.specs.Prelude.{◌≡◌, [], List, bytes_eq, codes, if◌then◌else◌, Some, None, IfOk};
+ghost use Rattle.std.specs.Prelude.{◌≡◌, [], List, IfOk};
 ghost use Rattle.floyd_lex.specs.Token.{Token, tokens_in};
-ghost use Rattle.floyd_check_stub.specs.declared.form.Script.{Script};
+ghost use Rattle.floyd_stub_goal.specs.declared.script.Proof.{Proof};
 ghost use Rattle.floyd_check_stub.specs.Forms.{IsScript, ReadsAs, rule_of};
-ghost use Rattle.floyd_check_stub.specs.Left.{left};
-ghost use Rattle.floyd_check_stub.specs.Reading.{command_of, commands_of, script_of};
+ghost use Rattle.floyd_check_stub.specs.LeftClauses.{left};
+ghost use Rattle.floyd_check_stub.specs.ReadingClauses.{command_of, commands_of, main_proof as main_proof_lem, script_of};
 
-use crate::form::{Entry, Script};
 use crate::left::{Left, all_of, first_token, placed_token};
 use floyd_lex::Tokens;
-use floyd_text::{Place, Rule};
-use sqlite_items::Items;
+use floyd_stub_goal::{Command, CommandList, Proof};
+use floyd_text::{Name, Place, Rule};
 use std::alloc::{AllocError, Global};
 
 fn rule_of(word: &[u8]) -> Option<Rule>
@@ -36,30 +35,38 @@ fn command_of(word: &[u8], semicolon: &[u8]) -> Option<Rule>
     }
 }
 
-/// The whole script, if its last word is `QED`.
-fn ended(commands: Items<Entry>, word: &[u8], end: Place) -> Option<Script>
-    ensures { result ≡ (if bytes_eq word.now (codes "QED") then Some (record { commands = commands; end = end }) else None) }
+/// The proof of `main` with these commands, if its last word is `QED`.
+fn main_proof(
+    alloc: Global,
+    commands: CommandList,
+    word: &[u8],
+    end: Place,
+) -> Result<Option<Proof>, AllocError>
+    ensures { IfOk result (λ p. p ≡ main_proof_lem commands word.now end) }
 {
-    if word == b"QED".as_slice() {
-        Some(Script { commands, end })
-    } else {
-        None
+    if word != b"QED".as_slice() {
+        return Ok(None);
     }
+    Ok(Some(Proof {
+        name: Name::from_slice(alloc, "main".as_bytes())?,
+        commands,
+        end,
+    }))
 }
 
-/// The script of which the tokens are its commands and its end.
-fn commands_from(alloc: Global, tokens: Left<'_>) -> Result<Option<Script>, AllocError>
+/// The proof of which the tokens are its commands and its end.
+fn commands_from(alloc: Global, tokens: Left<'_>) -> Result<Option<Proof>, AllocError>
     ensures { IfOk result (λ s. s ≡ commands_of [] (left tokens.entry)) }
 {
-    let mut commands = Items::new(alloc);
+    let mut commands = CommandList::new(alloc);
     let mut rest = tokens;
     'commands: while let Some(word) = placed_token(rest) {
         let semicolon = match first_token(word.rest) {
             Some(semicolon) => semicolon,
-            None => return Ok(ended(commands, word.text, word.place)),
+            None => return main_proof(alloc, commands, word.text, word.place),
         };
         match command_of(word.text, semicolon.text) {
-            Some(rule) => commands.push(Entry {
+            Some(rule) => commands.push(Command {
                 rule,
                 place: word.place,
             })?,
@@ -70,7 +77,7 @@ fn commands_from(alloc: Global, tokens: Left<'_>) -> Result<Option<Script>, Allo
     Ok(None)
 }
 
-fn script_of(alloc: Global, tokens: Left<'_>) -> Result<Option<Script>, AllocError>
+fn script_of(alloc: Global, tokens: Left<'_>) -> Result<Option<Proof>, AllocError>
     ensures { IfOk result (λ s. s ≡ script_of (left tokens.entry)) }
 {
     let proof = match first_token(tokens) {
@@ -94,7 +101,7 @@ pub fn read_script(
     alloc: Global,
     bytes: &[u8],
     tokens: &Tokens,
-) -> Result<Option<Script>, AllocError>
+) -> Result<Option<Proof>, AllocError>
     ensures { IfOk result (ReadsAs (IsScript (tokens_in bytes.now tokens.now))) }
 {
     script_of(alloc, all_of(bytes, tokens))
@@ -102,5 +109,5 @@ pub fn read_script(
 
 /// Tokens are one script at most.
 pub fn one_script()
-    ensures { (ts : List Token) (s t : Script) → IsScript ts s → IsScript ts t → s ≡ t }
+    ensures { (ts : List Token) (s t : Proof) → IsScript ts s → IsScript ts t → s ≡ t }
 {}

@@ -1,14 +1,13 @@
 //! The specification of a `main` of the first form.
-ghost use Rattle.std.specs.Prelude.{◌≡◌, ℕ, List, IfOk};
+ghost use Rattle.std.specs.Prelude.{◌≡◌, ℕ, List};
 ghost use Rattle.floyd_lex.specs.Token.{Token, tokens_in};
 ghost use Rattle.floyd_check_stub.specs.Forms.{IsSpec, ReadsAs, texts};
-ghost use Rattle.floyd_check_stub.specs.Left.{left};
-ghost use Rattle.floyd_check_stub.specs.Reading.{spec_of};
+ghost use Rattle.floyd_check_stub.specs.LeftClauses.{left};
+ghost use Rattle.floyd_check_stub.specs.ReadingClauses.{spec_of};
 
 use crate::left::{Left, all_of, first_token};
 use crate::word::{after_all, int_of};
 use floyd_lex::Tokens;
-use std::alloc::{AllocError, Global};
 
 const HEAD: [&[u8]; 17] = [
     b"DECLARE",
@@ -34,10 +33,10 @@ const END: [&[u8]; 6] = [b")", b")", b"SEP", b"(", b")", b";"];
 
 /// Reads the tokens of a specification file that says of `main` alone that it returns this number, and none where they
 /// have another form. The bytes are those of the tokens' file.
-pub fn read_spec(_alloc: Global, bytes: &[u8], tokens: &Tokens) -> Result<Option<u32>, AllocError>
-    ensures { IfOk result (ReadsAs (IsSpec (tokens_in bytes.now tokens.now))) }
+pub fn read_spec(bytes: &[u8], tokens: &Tokens) -> Option<u32>
+    ensures { ReadsAs (IsSpec (tokens_in bytes.now tokens.now)) result }
 {
-    Ok(number_of(all_of(bytes, tokens)))
+    number_of(all_of(bytes, tokens))
 }
 
 fn number_of(tokens: Left<'_>) -> Option<u32>

@@ -4,8 +4,8 @@ ghost use Rattle.std.specs.List.{list_all};
 ghost use Rattle.std.specs.Option.{option_map};
 ghost use Rattle.std.specs.Str.Parse.{digits_value};
 ghost use Rattle.floyd_check_stub.specs.Forms.{texts};
-ghost use Rattle.floyd_check_stub.specs.Left.{left};
-ghost use Rattle.floyd_check_stub.specs.Reading.{after_all, is_digit, is_numeral, small, int_of};
+ghost use Rattle.floyd_check_stub.specs.LeftClauses.{left};
+ghost use Rattle.floyd_check_stub.specs.ReadingClauses.{after_all, is_digit, is_numeral, small, int_of};
 
 use crate::left::{Left, first_token};
 

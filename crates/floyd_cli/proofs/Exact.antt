@@ -3,14 +3,14 @@ use Rattle.std.proofs.Common.{◌≡◌, ℕ, List, Option, Some, None, Result, 
 use Rattle.floyd_text.specs.declared.refusal.Refusal.{Refusal}
 use Rattle.floyd_text.specs.Outside.{Files, Appends}
 use Rattle.floyd_check.specs.Loading.{names_in}
-use Rattle.floyd_check.specs.Verdict.{Program}
+use Rattle.floyd_stub_soundness.specs.declared.program.MainProgram.{MainProgram}
 use Rattle.floyd_check.proofs.OneVerdict.{one_verdict}
 use Rattle.floyd_cli.specs.declared.status.Status.{Status}
 use Rattle.floyd_cli.specs.declared.status.Status.TheVariants as s
 use Rattle.floyd_cli.specs.Words.{wrong_word, project_in}
 use Rattle.floyd_cli.specs.Causes.{HasVerdict, HasText, SoundIf, status_of, verdict_text, Judged, Answers, Causes, AcceptsSound, AnswersVerdict, Exactly}
 
-accepted : (held : Option Files) (name : List ℕ) (v : Result Program Refusal) → s.Done ≡ status_of v → HasVerdict held name v → SoundIf v → AcceptsSound held name
+accepted : (held : Option Files) (name : List ℕ) (v : Result MainProgram Refusal) → s.Done ≡ status_of v → HasVerdict held name v → SoundIf v → AcceptsSound held name
 unfolding HasVerdict AcceptsSound
 accepted None name v e h k = tt
 accepted (Some files) name (Ok p) e h k = (p, h, k)

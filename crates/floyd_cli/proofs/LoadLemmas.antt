@@ -6,25 +6,29 @@ use Rattle.std.proofs.lemmas.Str.{IsUtf8-from_ascii}
 use Rattle.std.specs.List.{list_all}
 use Rattle.floyd_text.specs.declared.place.Place.{Place}
 use Rattle.floyd_text.specs.declared.refusal.Refusal.{Refusal}
-use Rattle.floyd_text.specs.Outside.{Files, file_in, HasFile, HasNone, HasLonger}
+use Rattle.floyd_text.specs.declared.code.Code.TheVariants.{MissingFile, FileTooLarge, ProjectTooLarge}
+use Rattle.floyd_text.specs.declared.refusal.Halt.TheVariants.{Refused, Memory}
+use Rattle.floyd_text.specs.declared.refusal.Shown.TheVariants.{Nothing}
+use Rattle.floyd_text.specs.Outside.{Files, file_in, HasFile, HasNone, HasLonger, max_file}
+use Rattle.floyd_text.specs.Refusals.{refusal_at}
 use Rattle.floyd_check_project.specs.declared.module.FileName.{FileName}
 use Rattle.floyd_check_project.specs.Lines.{is_file_name, is_file_byte, is_digit}
-use Rattle.floyd_check.specs.Loading.{bytes_at, named_at, files_from, refused, max_file, max_files, on_ok, within_all}
+use Rattle.floyd_check.specs.Loading.{bytes_at, named_at, files_from, max_files, on_ok, within_all}
 use Rattle.std.proofs.lemmas.List.{drop_more, drop_all}
 use Rattle.floyd_text.proofs.OutsideLemmas.{rose_after}
 use Rattle.floyd_cli.specs.declared.load.LoadStop.{LoadStop}
-use Rattle.floyd_cli.specs.declared.load.LoadStop.TheVariants.{Refused, Fault, Memory}
-use Rattle.floyd_cli.specs.Loads.{HasBytes, HasNext, HasFiles, AreNamed, ReadsNext, ReadsFiles}
+use Rattle.floyd_cli.specs.declared.load.LoadStop.TheVariants.{Halted, Fault}
+use Rattle.floyd_cli.specs.LoadClauses.{HasBytes, HasNext, HasFiles, AreNamed, ReadsNext, ReadsFiles}
 
-small : (place : Place) (bytes : List ℕ) (b : Bool) → nat_le (length bytes) max_file ≡ b → length bytes ≤ max_file → cond b (Ok bytes) (Err (refused 102 place)) ≡ Ok bytes
+small : (place : Place) (bytes : List ℕ) (b : Bool) → nat_le (length bytes) max_file ≡ b → length bytes ≤ max_file → cond b (Ok bytes) (Err (refusal_at FileTooLarge place Nothing)) ≡ Ok bytes
 small place bytes true e h = refl
 small place bytes false e h = absurd (omega (arith, leb-false (length bytes) max_file e))
 
-large : (place : Place) (bytes : List ℕ) (b : Bool) → nat_le (length bytes) max_file ≡ b → max_file < length bytes → cond b (Ok bytes) (Err (refused 102 place)) ≡ Err (refused 102 place)
+large : (place : Place) (bytes : List ℕ) (b : Bool) → nat_le (length bytes) max_file ≡ b → max_file < length bytes → cond b (Ok bytes) (Err (refusal_at FileTooLarge place Nothing)) ≡ Err (refusal_at FileTooLarge place Nothing)
 large place bytes true e h = absurd (omega (arith, leb-true (length bytes) max_file e))
 large place bytes false e h = refl
 
-large_at : (place : Place) (o : Option (List ℕ)) → IsSomeAnd o (λ bytes. max_file < length bytes) → bytes_at place o ≡ Err (refused 102 place)
+large_at : (place : Place) (o : Option (List ℕ)) → IsSomeAnd o (λ bytes. max_file < length bytes) → bytes_at place o ≡ Err (refusal_at FileTooLarge place Nothing)
 large_at place None h = absurd h
 large_at place (Some bytes) h = large place bytes (nat_le (length bytes) max_file) refl h
 
@@ -33,12 +37,12 @@ unfolding HasFile HasBytes
 has_bytes None place name bytes h l = tt
 has_bytes (Some files) place name bytes h l = ap (bytes_at place) h ∙ small place bytes (nat_le (length bytes) max_file) refl l
 
-pub has_missing : (held : Option Files) (place : Place) (name : List ℕ) → HasNone held name → HasBytes held place name (Err (refused 101 place))
+pub has_missing : (held : Option Files) (place : Place) (name : List ℕ) → HasNone held name → HasBytes held place name (Err (refusal_at MissingFile place Nothing))
 unfolding HasNone HasBytes
 has_missing None place name h = tt
 has_missing (Some files) place name h = ap (bytes_at place) h
 
-pub has_large : (held : Option Files) (place : Place) (name : List ℕ) → HasLonger held name max_file → HasBytes held place name (Err (refused 102 place))
+pub has_large : (held : Option Files) (place : Place) (name : List ℕ) → HasLonger held name max_file → HasBytes held place name (Err (refusal_at FileTooLarge place Nothing))
 unfolding HasLonger HasBytes
 has_large None place name h = tt
 has_large (Some files) place name h = large_at place (file_in files name) h
@@ -67,11 +71,11 @@ with_more : (before : List (List ℕ)) (bytes : List ℕ) (r : Result (List (Lis
 with_more before bytes (Ok files) = ap Ok (sym (append_assoc before (bytes ∷ []) files))
 with_more before bytes (Err r) = refl
 
-within : (place : Place) (total : ℕ) (bytes : List ℕ) (b : Bool) → nat_le total max_files ≡ b → total ≤ max_files → cond b (Ok bytes) (Err (refused 104 place)) ≡ Ok bytes
+within : (place : Place) (total : ℕ) (bytes : List ℕ) (b : Bool) → nat_le total max_files ≡ b → total ≤ max_files → cond b (Ok bytes) (Err (refusal_at ProjectTooLarge place Nothing)) ≡ Ok bytes
 within place total bytes true e h = refl
 within place total bytes false e h = absurd (omega (arith, leb-false total max_files e))
 
-beyond : (place : Place) (total : ℕ) (bytes : List ℕ) (b : Bool) → nat_le total max_files ≡ b → max_files < total → cond b (Ok bytes) (Err (refused 104 place)) ≡ Err (refused 104 place)
+beyond : (place : Place) (total : ℕ) (bytes : List ℕ) (b : Bool) → nat_le total max_files ≡ b → max_files < total → cond b (Ok bytes) (Err (refusal_at ProjectTooLarge place Nothing)) ≡ Err (refusal_at ProjectTooLarge place Nothing)
 beyond place total bytes true e h = absurd (omega (arith, leb-true total max_files e))
 beyond place total bytes false e h = refl
 
@@ -87,7 +91,7 @@ next_within (Some files) project total f bytes e h =
     ap (on_bytes project total f) e ∙ within (named_at project f) (total + length bytes) bytes (nat_le (total + length bytes) max_files) refl h
 
 pub next_beyond : (held : Option Files) (project : List ℕ) (total : ℕ) (f : FileName) (bytes : List ℕ)
-    → HasBytes held (named_at project f) f.name (Ok bytes) → max_files < total + length bytes → HasNext held project total f (Err (refused 104 (named_at project f)))
+    → HasBytes held (named_at project f) f.name (Ok bytes) → max_files < total + length bytes → HasNext held project total f (Err (refusal_at ProjectTooLarge (named_at project f) Nothing))
 unfolding HasBytes HasNext
 next_beyond None project total f bytes e h = tt
 next_beyond (Some files) project total f bytes e h =
@@ -196,6 +200,6 @@ named_more_at all i f lt n = (subst AreNamed (drop_more all i f lt) n).1
 pub stopped_at : (held : Option Files) (project : List ℕ) (all : List FileName) (before : List (List ℕ)) (total i : ℕ) (f : FileName) (was now : ℕ) (stop : LoadStop)
     → i < length all → f ≡ get_or all i f → Leads held project all before total (drop i all) → ReadsNext held project total f was now (Err stop)
     → (later : ℕ) → later ≤ was → ReadsFiles held project all later now (Err stop)
-stopped_at held project all before total i f was now (Refused r) lt e l n later h = leads_refused_at held project all before total i f r lt e l n
+stopped_at held project all before total i f was now (Halted (Refused r)) lt e l n later h = leads_refused_at held project all before total i f r lt e l n
 stopped_at held project all before total i f was now Fault lt e l n later h = rose_after later was now h n
-stopped_at held project all before total i f was now Memory lt e l n later h = tt
+stopped_at held project all before total i f was now (Halted Memory) lt e l n later h = tt

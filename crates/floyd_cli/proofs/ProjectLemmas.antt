@@ -3,7 +3,7 @@ use Rattle.std.proofs.Common.{◌≡◌, ℕ, List, [], ◌∷◌, map, Option, 
 use Rattle.std.specs.List.{flat_map}
 use Rattle.floyd_text.specs.declared.refusal.Refusal.{Refusal}
 use Rattle.floyd_text.specs.declared.refusal.Halt.{Halt}
-use Rattle.floyd_text.specs.declared.refusal.Halt.TheVariants as h
+use Rattle.floyd_text.specs.declared.refusal.Halt.TheVariants.{Refused, Memory}
 use Rattle.floyd_text.specs.Gives.{Stops}
 use Rattle.floyd_text.specs.Outside.{Files}
 use Rattle.floyd_text.specs.Place.{first_place}
@@ -13,8 +13,8 @@ use Rattle.floyd_check_project.specs.Project.{project_of}
 use Rattle.floyd_check_project.proofs.NameLaws.{AllNamed, project_named}
 use Rattle.floyd_check.specs.Loading.{files_from, files_of, names_with, modules_of, built_modules, on_ok}
 use Rattle.floyd_cli.specs.declared.load.LoadStop.{LoadStop}
-use Rattle.floyd_cli.specs.declared.load.LoadStop.TheVariants.{Refused, Fault, Memory}
-use Rattle.floyd_cli.specs.Loads.{HasBytes, HasFiles, HasProject, HasNames, AreNamed, ReadsFile, ReadsFiles, Loads, stop_of}
+use Rattle.floyd_cli.specs.declared.load.LoadStop.TheVariants.{Halted, Fault}
+use Rattle.floyd_cli.specs.LoadClauses.{HasBytes, HasFiles, HasProject, HasLoaded, HasNames, AreNamed, ReadsFile, ReadsFiles, Loads}
 
 -- what a project gives, by its bytes, by its modules, and by its files
 abbrev on_project : Files → Result (List ℕ) Refusal → Result (List (List ℕ)) Refusal
@@ -44,6 +44,15 @@ pub project_loaded : (held : Option Files) (name project : List ℕ) (modules : 
 unfolding HasBytes HasFiles HasProject
 project_loaded None name project modules r e m f = tt
 project_loaded (Some files) name project modules r e m f = ap (on_project files) e ∙ ap (on_modules files project) m ∙ ap (on_files project) f
+
+-- its files were read
+pub has_loaded : (held : Option Files) (name project : List ℕ) (modules : List Module) (others : List (List ℕ))
+    → HasBytes held (first_place 0) name (Ok project) → modules_of project ≡ Ok modules → HasFiles held project (flat_map files_of modules) (Ok others)
+    → HasLoaded held name others
+unfolding HasBytes HasFiles HasLoaded
+has_loaded None name project modules others e m f = tt
+has_loaded (Some files) name project modules others e m f =
+    (project, modules, ap (on_project files) e ∙ ap (on_modules files project) m ∙ ap (on_files project) f, m)
 
 pub project_names : (held : Option Files) (name project : List ℕ) (modules : List Module)
     → HasBytes held (first_place 0) name (Ok project) → modules_of project ≡ Ok modules
@@ -76,21 +85,21 @@ modules_named project modules e = bound_named project (project_of project) modul
 
 -- the project file does not read
 pub modules_stopped : (held : Option Files) (name project : List ℕ) (halt : Halt) (before now : ℕ)
-    → HasBytes held (first_place 0) name (Ok project) → Stops halt (modules_of project) → Loads held name before now (Err (stop_of halt))
-modules_stopped held name project (h.Refused r) before now e m = modules_refused held name project r e m
-modules_stopped held name project h.Memory before now e m = tt
+    → HasBytes held (first_place 0) name (Ok project) → Stops halt (modules_of project) → Loads held name before now (Err (Halted halt))
+modules_stopped held name project (Refused r) before now e m = modules_refused held name project r e m
+modules_stopped held name project Memory before now e m = tt
 
 -- a file stops it
 pub files_stopped : (held : Option Files) (name project : List ℕ) (modules : List Module) (stop : LoadStop) (before now : ℕ)
     → HasBytes held (first_place 0) name (Ok project) → modules_of project ≡ Ok modules → ReadsFiles held project (flat_map files_of modules) before now (Err stop)
     → Loads held name before now (Err stop)
-files_stopped held name project modules (Refused r) before now e m f = project_loaded held name project modules (Err r) e m f
+files_stopped held name project modules (Halted (Refused r)) before now e m f = project_loaded held name project modules (Err r) e m f
 files_stopped held name project modules Fault before now e m f = f
-files_stopped held name project modules Memory before now e m f = tt
+files_stopped held name project modules (Halted Memory) before now e m f = tt
 
 -- the project itself stops it
 pub project_stopped : (held : Option Files) (name : List ℕ) (stop : LoadStop) (before now : ℕ)
     → ReadsFile held (first_place 0) name before now (Err stop) → Loads held name before now (Err stop)
-project_stopped held name (Refused r) before now e = project_refused held name r e
+project_stopped held name (Halted (Refused r)) before now e = project_refused held name r e
 project_stopped held name Fault before now e = e
-project_stopped held name Memory before now e = tt
+project_stopped held name (Halted Memory) before now e = tt

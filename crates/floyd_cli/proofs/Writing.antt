@@ -2,13 +2,13 @@
 use Rattle.std.proofs.Common.{◌≡◌, ◌≢◌, ℕ, List, Option, Some, None, Result, Ok, Err, sym, subst, ◌∙◌}
 use Rattle.floyd_text.specs.declared.refusal.Refusal.{Refusal}
 use Rattle.floyd_text.specs.Outside.{Files, Appends, AppendsFront}
-use Rattle.floyd_check.specs.Verdict.{Program}
+use Rattle.floyd_stub_soundness.specs.declared.program.MainProgram.{MainProgram}
 use Rattle.floyd_cli.specs.declared.status.Status.{Status}
 use Rattle.floyd_cli.specs.declared.status.Status.TheVariants as s
 use Rattle.floyd_cli.specs.Texts.{usage_text}
 use Rattle.floyd_cli.specs.Words.{wrong_word, project_in}
 use Rattle.floyd_cli.specs.Causes.{Judged, status_of, Causes, WritesFront}
-use Rattle.floyd_cli.specs.Judging.{Writes, ChecksProject, WritesUsage}
+use Rattle.floyd_cli.specs.AnswerClauses.{Writes, ChecksProject, WritesUsage}
 
 -- a status that is no verdict's
 abbrev IsOther : Status → Type 0
@@ -19,7 +19,7 @@ IsOther s.ReadFault = Unit {0}
 IsOther s.WriteFault = Unit {0}
 IsOther s.NoMemory = Unit {0}
 
-no_other : (v : Result Program Refusal) → IsOther (status_of v) → ⊥
+no_other : (v : Result MainProgram Refusal) → IsOther (status_of v) → ⊥
 no_other (Ok p) h = h
 no_other (Err r) h = h
 

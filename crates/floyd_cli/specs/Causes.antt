@@ -2,9 +2,11 @@
 use Rattle.std.specs.Prelude.{◌≡◌, ℕ, ◌⊎◌, List, [], ◌∷◌, Option, Some, None, Result, Ok, Err, codes}
 use Rattle.floyd_text.specs.declared.refusal.Refusal.{Refusal}
 use Rattle.floyd_text.specs.Outside.{Files, Appends, AppendsFront}
-use Rattle.floyd_clight_runs.specs.Sound.{Sound}
+use Rattle.floyd_stub_runs.specs.Sound.{Sound}
 use Rattle.floyd_check.specs.Loading.{names_in}
-use Rattle.floyd_check.specs.Verdict.{Program, linked_of, IsVerdict}
+use Rattle.floyd_check.specs.Verdict.{IsVerdict}
+use Rattle.floyd_stub_soundness.specs.declared.program.MainProgram.{MainProgram}
+use Rattle.floyd_stub_soundness.specs.Programs.{linked_of}
 use Rattle.floyd_cli.specs.declared.status.Status.{Status}
 use Rattle.floyd_cli.specs.declared.status.Status.TheVariants.{Done, Refused, Usage, ReadFault, WriteFault, NoMemory}
 use Rattle.floyd_cli.specs.Texts.{refusal_text, accepted_text, usage_text}
@@ -20,33 +22,33 @@ number_of WriteFault = 4
 number_of NoMemory = 5
 
 -- the status of a verdict
-abbrev pub status_of : Result Program Refusal → Status
+abbrev pub status_of : Result MainProgram Refusal → Status
 status_of (Ok p) = Done
 status_of (Err r) = Refused
 
 -- the text of a verdict, where the files have these names
-abbrev pub verdict_text : List (List ℕ) → Result Program Refusal → List ℕ
+abbrev pub verdict_text : List (List ℕ) → Result MainProgram Refusal → List ℕ
 verdict_text names (Ok p) = accepted_text (codes "main" ∷ [])
 verdict_text names (Err r) = refusal_text names r
 
 -- Where the shelf tells, this is the verdict on the project.
-unfoldable pub HasVerdict : Option Files → List ℕ → Result Program Refusal → Type 0
+unfoldable pub HasVerdict : Option Files → List ℕ → Result MainProgram Refusal → Type 0
 HasVerdict None name v = Unit {0}
 HasVerdict (Some held) name v = IsVerdict held name v
 
 -- Where the shelf tells, this is the verdict's text.
-unfoldable pub HasText : Option Files → List ℕ → Result Program Refusal → List ℕ → Type 0
+unfoldable pub HasText : Option Files → List ℕ → Result MainProgram Refusal → List ℕ → Type 0
 HasText None name v text = Unit {0}
 HasText (Some held) name v text = verdict_text (names_in held name) v ≡ text
 
 -- an accepted program is sound
-abbrev pub SoundIf : Result Program Refusal → Type 0
+abbrev pub SoundIf : Result MainProgram Refusal → Type 0
 SoundIf (Ok p) = Sound (linked_of p)
 SoundIf (Err r) = Unit {0}
 
 -- what `check` answers of a project, before it is written: the verdict's status and text
 pub record Judged (held : Option Files) (name : List ℕ) (status : Status) (text : List ℕ) : Type 0 where
-  pub verdict : Result Program Refusal
+  pub verdict : Result MainProgram Refusal
   pub is : HasVerdict held name verdict
   pub sound : SoundIf verdict
   pub status_is : status ≡ status_of verdict
@@ -86,13 +88,13 @@ Causes words held shelf_rose sink_rose old new NoMemory = new ≡ old
 -- all else untouched.
 unfoldable pub AcceptsSound : Option Files → List ℕ → Type 0
 AcceptsSound None name = Unit {0}
-AcceptsSound (Some held) name = (p : Program) × IsVerdict held name (Ok p) × Sound (linked_of p)
+AcceptsSound (Some held) name = (p : MainProgram) × IsVerdict held name (Ok p) × Sound (linked_of p)
 
 -- Where the shelf tells, the status is the verdict's, and the verdict's text was written, unless memory ran out.
 unfoldable pub AnswersVerdict : Option Files → List ℕ → Option (List ℕ) → Option (List ℕ) → Status → Type 0
 AnswersVerdict None name old new status = Unit {0}
 AnswersVerdict (Some held) name old new status =
-    (v : Result Program Refusal) → IsVerdict held name v
+    (v : Result MainProgram Refusal) → IsVerdict held name v
     → ((status ≡ status_of v) × Appends old new (verdict_text (names_in held name) v)) ⊎ (status ≡ NoMemory)
 
 -- Exactly: where neither the shelf nor the sink failed, words that are no command line are answered by their usage, and

@@ -1,5 +1,5 @@
+pub mod AnswerClauses
 pub mod Causes
-pub mod Judging
-pub mod Loads
+pub mod LoadClauses
 pub mod Texts
 pub mod Words

@@ -1,16 +1,19 @@
-ghost use Rattle.std.specs.Prelude.{◌≡◌, ◌+◌, ◌≤◌, IfOk, Ok, true, length, map, All, [], ◌∷◌, ◌++◌};
+ghost use Rattle.std.specs.Prelude.{◌≡◌, ◌+◌, ◌≤◌, IfOk, Ok, true, length, map, All, ◌∷◌};
 ghost use Rattle.std.specs.List.{flat_map, sum_by};
-ghost use Rattle.floyd_check.specs.Loading.{files_of, max_file, max_files, named_at, refused};
-ghost use Rattle.floyd_check.specs.Verdict.{AreFiles};
-ghost use Rattle.floyd_text.specs.Place.{first_place};
+ghost use Rattle.floyd_check.specs.Loading.{files_of, max_files, named_at};
+ghost use Rattle.floyd_text.specs.Outside.{max_file};
+ghost use Rattle.floyd_text.specs.Place.{first_place, place_at};
+ghost use Rattle.floyd_text.specs.Refusals.{refusal_at};
+ghost use Rattle.floyd_text.specs.declared.refusal.Halt.TheVariants.{Refused};
+ghost use Rattle.floyd_text.specs.declared.refusal.Shown.TheVariants.{Nothing};
 ghost use Rattle.floyd_check_project.specs.declared.module.FileName.{FileName};
-ghost use Rattle.floyd_cli.specs.Loads.{AreNamed, HasBytes, Loads, ReadsFile, ReadsNext, ReadsFiles, stop_of};
+ghost use Rattle.floyd_cli.specs.LoadClauses.{AreNamed, HasBytes, Loads, ReadsFile, ReadsNext, ReadsFiles};
 ghost use Rattle.floyd_check_project.specs.Lines.{is_file_name};
 
 use floyd_check::{FileList, modules_of};
 use floyd_check_project::{FileName, Module};
 use floyd_text::{
-    Bytes, Halt, Name, Place, ReadStop, Refusal, Rule, Shelf, Shown, place_of, read_file,
+    Bytes, Code, Halt, Name, Place, ReadStop, Refusal, Shelf, Shown, place_of, read_file,
 };
 use sqlite_items::Items;
 use std::alloc::{AllocError, Global};
@@ -21,75 +24,84 @@ const MAX_FILES: u64 = 16777216;
 /// Names in the order of the files.
 pub type NameList = Items<Name>;
 
-/// A project's bytes, and the names of its files.
-#[derive(Debug, Drop)]
+/// The bytes of the files of a project, and the names of the project and of its files.
+#[derive(Debug)]
 pub struct Loaded {
     pub files: FileList,
     pub names: NameList,
 }
 
+impl Drop for Loaded {
+    fn drop(self) {
+        let Loaded { files, names } = self;
+        drop(files);
+        drop(names);
+    }
+}
+
 /// Why a project was not loaded.
-#[derive(Debug, Drop)]
+#[derive(Debug)]
 pub enum LoadStop {
-    Refused(Refusal),
+    /// It is refused, or memory ran out.
+    Halted(Halt),
+    /// A file could not be read.
     Fault,
-    Memory,
+}
+
+impl Drop for LoadStop {
+    fn drop(self) {
+        match self {
+            LoadStop::Halted(halt) => drop(halt),
+            LoadStop::Fault => {}
+        }
+    }
 }
 
 impl From<AllocError> for LoadStop {
-    ghost use Rattle.floyd_cli.specs.declared.load.LoadStop.TheVariants.{Memory};
+    ghost use Rattle.floyd_cli.specs.declared.load.LoadStop.TheVariants.{Halted};
+    ghost use Rattle.floyd_text.specs.declared.refusal.Halt.TheVariants.{Memory};
 
-    ghost from_gives = { λ _ e. e ≡ Memory };
+    ghost from_gives = { λ _ e. e ≡ Halted Memory };
 
     fn from(_error: AllocError) -> LoadStop {
-        LoadStop::Memory
+        LoadStop::Halted(Halt::Memory)
     }
 }
 
-/// A refusal that shows nothing.
-fn refusal_at(code: u16, place: Place) -> Refusal
-    ensures { result ≡ refused code place }
+/// The refusal of a file that is named in the project file at this offset.
+fn file_refused(code: Code, project: &[u8], at: usize) -> LoadStop
+    ensures { result ≡ LoadStop.Halted (Refused (refusal_at code (place_at 0 project.now at) Nothing)) }
 {
-    Refusal {
-        code,
-        rule: Rule::Reading,
-        place,
-        goal: 0,
-        shown: Shown::Nothing,
-    }
+    let place = place_of(0, project, at.min(project.len()));
+    LoadStop::Halted(Halt::Refused(Refusal::at(code, place, Shown::Nothing)))
 }
 
-/// The place at which the project file names a file.
-fn place_named(project: &[u8], file: &FileName) -> Place
-    ensures { result ≡ named_at project.now file.now }
-{
-    place_of(0, project, file.at.min(project.len()))
-}
-
-/// The bytes of the file of that name, which is named at this place. The place is made only for a refusal.
+/// The bytes of the file of that name, which these bytes of the project file name at this offset. Its place is made only
+/// for a refusal.
 #[tactic(auto, using(crate::proofs::LoadLemmas::has_bytes, crate::proofs::LoadLemmas::has_missing, crate::proofs::LoadLemmas::has_large))]
-fn read_project_file<H: Shelf>(alloc: Global, shelf: &mut H, name: &str) -> Result<Bytes, LoadStop>
-    ensures gives { ReadsFile (H.held shelf.old) (first_place 0) name.now (H.faults shelf.old) (H.faults shelf.new) result }
+fn read_at<H: Shelf>(
+    alloc: Global,
+    shelf: &mut H,
+    name: &str,
+    project: &[u8],
+    at: usize,
+) -> Result<Bytes, LoadStop>
+    ensures gives { ReadsFile (H.held shelf.old) (place_at 0 project.now at) name.now (H.faults shelf.old) (H.faults shelf.new) result }
     ensures small { IfOk result (λ bytes. length bytes ≤ max_file) }
     ensures held { H.held shelf.new ≡ H.held shelf.old }
     ensures later { H.faults shelf.old ≤ H.faults shelf.new }
 {
-    let place = Place {
-        file: 0,
-        line: 1,
-        column: 1,
-    };
     match read_file(alloc, shelf, name) {
         Ok(bytes) => Ok(bytes),
-        Err(ReadStop::Missing) => Err(LoadStop::Refused(refusal_at(101, place))),
-        Err(ReadStop::TooLarge) => Err(LoadStop::Refused(refusal_at(102, place))),
+        Err(ReadStop::Missing) => Err(file_refused(Code::MissingFile, project, at)),
+        Err(ReadStop::TooLarge) => Err(file_refused(Code::FileTooLarge, project, at)),
         Err(ReadStop::Fault) => Err(LoadStop::Fault),
-        Err(ReadStop::Memory) => Err(LoadStop::Memory),
+        Err(ReadStop::Memory) => Err(LoadStop::Halted(Halt::Memory)),
     }
 }
 
-/// The bytes of a file that the project names. Its place is made only for a refusal.
-#[tactic(auto, using(crate::proofs::LoadLemmas::has_bytes, crate::proofs::LoadLemmas::has_missing, crate::proofs::LoadLemmas::has_large, crate::proofs::LoadLemmas::is_utf8))]
+/// The bytes of a file that the project names.
+#[tactic(auto, using(crate::proofs::LoadLemmas::is_utf8))]
 fn read_named<H: Shelf>(
     alloc: Global,
     shelf: &mut H,
@@ -105,19 +117,7 @@ fn read_named<H: Shelf>(
     let Ok(name) = str::from_utf8(file.name.as_slice()) else {
         unreachable!()
     };
-    match read_file(alloc, shelf, name) {
-        Ok(bytes) => Ok(bytes),
-        Err(ReadStop::Missing) => Err(LoadStop::Refused(refusal_at(
-            101,
-            place_named(project, file),
-        ))),
-        Err(ReadStop::TooLarge) => Err(LoadStop::Refused(refusal_at(
-            102,
-            place_named(project, file),
-        ))),
-        Err(ReadStop::Fault) => Err(LoadStop::Fault),
-        Err(ReadStop::Memory) => Err(LoadStop::Memory),
-    }
+    read_at(alloc, shelf, name, project, file.at)
 }
 
 /// The bytes of the next file of a project, where those before it have so many bytes.
@@ -139,7 +139,7 @@ fn read_next<H: Shelf>(
 {
     let bytes = read_named(alloc, shelf, project, file)?;
     if bytes.len() as u64 > MAX_FILES - total {
-        return Err(LoadStop::Refused(refusal_at(104, place_named(project, file))));
+        return Err(file_refused(Code::ProjectTooLarge, project, file.at));
     }
     Ok(bytes)
 }
@@ -180,7 +180,7 @@ fn copy_of(file: &FileName) -> Result<FileName, AllocError>
 }
 
 /// The files of the modules in order.
-fn files_named(alloc: Global, modules: &[Module]) -> Result<Items<FileName>, AllocError>
+fn files_of(alloc: Global, modules: &[Module]) -> Result<Items<FileName>, AllocError>
     ensures { IfOk result (λ fs. fs ≡ flat_map files_of modules.now) }
 {
     let mut files = Items::new(alloc);
@@ -204,51 +204,28 @@ fn names_of(alloc: Global, name: &str, files: &[FileName]) -> Result<NameList, A
     Ok(names)
 }
 
-/// The bytes of the project before those of its files.
-fn with_project(alloc: Global, project: Bytes, others: FileList) -> Result<FileList, AllocError>
-    ensures { IfOk result (λ files. files ≡ project ∷ others) }
-{
-    let mut files = FileList::new(alloc);
-    files.push(project)?;
-    files.append(others)?;
-    Ok(files)
-}
-
-/// The same stop of a call that reads no file.
-fn stop_of(halt: Halt) -> LoadStop
-    ensures { result ≡ stop_of halt }
-{
-    match halt {
-        Halt::Refused(refusal) => LoadStop::Refused(refusal),
-        Halt::Memory => LoadStop::Memory,
-    }
-}
-
 /// Reads the files of the project of that name, which has these bytes.
 fn load_files<H: Shelf>(
     alloc: Global,
     shelf: &mut H,
     name: &str,
-    project: Bytes,
+    project: &[u8],
 ) -> Result<Loaded, LoadStop>
-    requires held { HasBytes (H.held shelf.old) (first_place 0) name.now (Ok project) }
-    requires small { length project ≤ max_file }
+    requires { HasBytes (H.held shelf.old) (first_place 0) name.now (Ok project.now) }
     ensures gives { Loads (H.held shelf.old) name.now (H.faults shelf.old) (H.faults shelf.new) result }
-    ensures files { IfOk result (λ loaded. AreFiles loaded.files) }
+    ensures len { IfOk result (λ loaded. length loaded.files ≡ 3) }
+    ensures small { IfOk result (λ loaded. All (λ bytes. length bytes ≤ max_file) loaded.files) }
     ensures held { H.held shelf.new ≡ H.held shelf.old }
     ensures later { H.faults shelf.old ≤ H.faults shelf.new }
 {
-    let modules = match modules_of(alloc, project.as_slice()) {
+    let modules = match modules_of(alloc, project) {
         Ok(modules) => modules,
-        Err(halt) => return Err(stop_of(halt)),
+        Err(halt) => return Err(LoadStop::Halted(halt)),
     };
-    let named = files_named(alloc, modules.as_slice())?;
+    let named = files_of(alloc, modules.as_slice())?;
     let names = names_of(alloc, name, named.as_slice())?;
-    match read_files(alloc, shelf, project.as_slice(), named.as_slice()) {
-        Ok(others) => Ok(Loaded {
-            files: with_project(alloc, project, others)?,
-            names,
-        }),
+    match read_files(alloc, shelf, project, named.as_slice()) {
+        Ok(files) => Ok(Loaded { files, names }),
         Err(stop) => Err(stop),
     }
 }
@@ -258,12 +235,13 @@ fn load_files<H: Shelf>(
 /// project file does not read; a refusal of the project itself stands at its first place.
 pub fn load<H: Shelf>(alloc: Global, shelf: &mut H, name: &str) -> Result<Loaded, LoadStop>
     ensures gives { Loads (H.held shelf.old) name.now (H.faults shelf.old) (H.faults shelf.new) result }
-    ensures files { IfOk result (λ loaded. AreFiles loaded.files) }
+    ensures len { IfOk result (λ loaded. length loaded.files ≡ 3) }
+    ensures small { IfOk result (λ loaded. All (λ bytes. length bytes ≤ max_file) loaded.files) }
     ensures held { H.held shelf.new ≡ H.held shelf.old }
     ensures later { H.faults shelf.old ≤ H.faults shelf.new }
 {
-    match read_project_file(alloc, shelf, name) {
-        Ok(project) => load_files(alloc, shelf, name, project),
+    match read_at(alloc, shelf, name, b"".as_slice(), 0) {
+        Ok(project) => load_files(alloc, shelf, name, project.as_slice()),
         Err(stop) => Err(stop),
     }
 }

@@ -1,90 +1,10 @@
 ghost use Rattle.std.specs.Prelude.{◌≡◌, ◌++◌, List, ℕ, map, OnOk, IfOk};
 ghost use Rattle.std.specs.Fmt.{decimal};
+ghost use Rattle.floyd_text.specs.Commands.{command_word};
 ghost use Rattle.floyd_cli.specs.Texts as spec;
 
 use floyd_text::{Bytes, Name, Place, Refusal, Rule, Shown};
 use std::alloc::{AllocError, Global};
-
-/// The word of a command, and nothing for reading.
-fn word_of(rule: Rule) -> &'static str
-    ensures { result.now ≡ spec.command_word rule }
-{
-    match rule {
-        Rule::Reading => "",
-        Rule::Forward => "forward",
-        Rule::ForwardIf => "forward_if",
-        Rule::ForwardWhile => "forward_while",
-        Rule::ForwardLoop => "forward_loop",
-        Rule::ForwardCall => "forward_call",
-        Rule::ForwardCallPtr => "forward_call_ptr",
-        Rule::UseSpec => "use_spec",
-        Rule::Intros => "Intros",
-        Rule::Exists => "Exists",
-        Rule::Cancel => "cancel",
-        Rule::Weaken => "weaken",
-        Rule::Unfold => "unfold",
-        Rule::Fold => "fold",
-        Rule::Facts => "facts",
-        Rule::Valid => "valid",
-        Rule::Apply => "apply",
-        Rule::Induction => "induction",
-        Rule::ApplyIh => "apply_ih",
-        Rule::SplitArray => "split_array",
-        Rule::JoinArray => "join_array",
-        Rule::SplitStruct => "split_struct",
-        Rule::JoinStruct => "join_struct",
-        Rule::Reroot => "reroot",
-        Rule::Law => "law",
-        Rule::Rewrite => "rewrite",
-        Rule::Cut => "cut",
-        Rule::Destruct => "destruct",
-        Rule::Specialize => "specialize",
-        Rule::Mp => "mp",
-        Rule::UnfoldFun => "unfold_fun",
-        Rule::Discriminate => "discriminate",
-        Rule::Inject => "inject",
-        Rule::Refl => "refl",
-        Rule::Trivial => "trivial",
-        Rule::Intro => "intro",
-        Rule::Left => "left",
-        Rule::Right => "right",
-        Rule::Split => "split",
-        Rule::Simpl => "simpl",
-        Rule::Lia => "lia",
-    }
-}
-
-/// The name of a code.
-fn name_of(code: u16) -> &'static str
-    ensures { result.now ≡ spec.code_name code }
-{
-    match code {
-        101 => "MissingFile",
-        102 => "FileTooLarge",
-        103 => "BadProject",
-        104 => "ProjectTooLarge",
-        199 => "NotBuilt",
-        201 => "BadByte",
-        202 => "OpenComment",
-        203 => "BadNumber",
-        204 => "TooManyTokens",
-        205 => "LongName",
-        301 => "Unexpected",
-        302 => "TooDeep",
-        303 => "OutOfProfile",
-        304 => "TypedefShadowed",
-        401 => "IllTyped",
-        402 => "Undeclared",
-        403 => "Redeclared",
-        404 => "NestedEffect",
-        405 => "BadCast",
-        610 => "OpenGoals",
-        611 => "NoGoal",
-        701 => "WrongGoal",
-        710 => "UnknownTemp",
-        _ => "",
-    }
-}
 
 /// Puts the number at the end in decimal.
 fn put_number(alloc: Global, out: &mut Bytes, n: u64) -> Result<(), AllocError>
@@ -142,14 +62,15 @@ fn put_shown(alloc: Global, out: &mut Bytes, shown: &Shown) -> Result<(), AllocE
 
 /// Puts ` in COMMAND` at the end, where a command was tried.
 fn put_rule(out: &mut Bytes, rule: Rule) -> Result<(), AllocError>
-    ensures { OnOk result (out.new ≡ out.old ++ spec.rule_text (spec.command_word rule)) }
+    ensures { OnOk result (out.new ≡ out.old ++ spec.rule_text (command_word rule)) }
 {
-    let word = word_of(rule);
-    if word.is_empty() {
-        return Ok(());
+    match rule.word() {
+        None => Ok(()),
+        Some(word) => {
+            out.extend(" in ".as_bytes())?;
+            out.extend(word.as_bytes())
+        }
     }
-    out.extend(" in ".as_bytes())?;
-    out.extend(word.as_bytes())
 }
 
 /// Puts ` at goal G` at the end, where the goal has a number.
@@ -174,9 +95,9 @@ fn put_head(
 {
     put_place(alloc, out, names, refusal.place)?;
     out.extend(": ".as_bytes())?;
-    put_number(alloc, out, u64::from(refusal.code))?;
+    put_number(alloc, out, u64::from(refusal.code.number()))?;
     out.push(b' ')?;
-    out.extend(name_of(refusal.code).as_bytes())
+    out.extend(refusal.code.name().as_bytes())
 }
 
 /// The line of a refusal. The names are those of the project's files by their numbers.

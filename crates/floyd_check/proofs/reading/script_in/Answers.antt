@@ -14,9 +14,9 @@ returns-in_err-list c =
 
 pub returns-in-Some : goal.returns-in-Some
 returns-in-Some c =
-    reads_some IsScript kind.Script 3 c.args.bytes.now c.in_ok-list.list c.in_ok-script.field-0 c.in-Some.script c.in_ok-list.ensures c.in_ok-script.ensures c.in-Some.is
+    reads_some IsScript kind.Script 3 c.args.bytes.now c.in_ok-list.list c.in_ok-proof.field-0 c.in-Some.proof c.in_ok-list.ensures c.in_ok-proof.ensures c.in-Some.is
 
 pub returns : goal.returns
 returns c =
     subst (λ (r : Refusal). ReadsFile IsScript kind.Script 3 c.args.bytes.now (Err r)) (sym c.not_built.ensures)
-    (reads_none IsScript kind.Script 3 c.args.bytes.now c.in_ok-list.list c.in_ok-script.field-0 c.in_ok-list.ensures c.in_ok-script.ensures c.in-None.is)
+    (reads_none IsScript kind.Script 3 c.args.bytes.now c.in_ok-list.list c.in_ok-proof.field-0 c.in_ok-list.ensures c.in_ok-proof.ensures c.in-None.is)

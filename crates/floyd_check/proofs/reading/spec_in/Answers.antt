@@ -14,9 +14,9 @@ returns-in_err-list c =
 
 pub returns-in-Some : goal.returns-in-Some
 returns-in-Some c =
-    reads_some IsSpec kind.Spec 2 c.args.bytes.now c.in_ok-list.list c.in_ok-value.field-0 c.in-Some.value c.in_ok-list.ensures c.in_ok-value.ensures c.in-Some.is
+    reads_some IsSpec kind.Spec 2 c.args.bytes.now c.in_ok-list.list c.read_spec.result c.in-Some.value c.in_ok-list.ensures c.read_spec.ensures c.in-Some.is
 
 pub returns : goal.returns
 returns c =
     subst (λ (r : Refusal). ReadsFile IsSpec kind.Spec 2 c.args.bytes.now (Err r)) (sym c.not_built.ensures)
-    (reads_none IsSpec kind.Spec 2 c.args.bytes.now c.in_ok-list.list c.in_ok-value.field-0 c.in_ok-list.ensures c.in_ok-value.ensures c.in-None.is)
+    (reads_none IsSpec kind.Spec 2 c.args.bytes.now c.in_ok-list.list c.read_spec.result c.in_ok-list.ensures c.read_spec.ensures c.in-None.is)

@@ -1,7 +1,7 @@
 use Rattle.std.proofs.Common.{List, drop, ap, sym, subst, arith}
 use Rattle.floyd_lex.specs.Token.{Token, tokens_in}
 use Rattle.floyd_check_stub.specs.Forms.{texts}
-use Rattle.floyd_check_stub.specs.Left.{left, Begins}
+use Rattle.floyd_check_stub.specs.LeftClauses.{left, Begins}
 use Rattle.floyd_check_stub.proofs.LeftLemmas.{none_left, begins, begin_texts}
 use Rattle.floyd_check_stub.proofs.left.first_token.Goals as goal
 

@@ -1,6 +1,6 @@
 use Rattle.std.proofs.Common.{List, drop, sym, subst, arith}
 use Rattle.floyd_lex.specs.Token.{Token, tokens_in}
-use Rattle.floyd_check_stub.specs.Left.{left, Begins}
+use Rattle.floyd_check_stub.specs.LeftClauses.{left, Begins}
 use Rattle.floyd_check_stub.proofs.LeftLemmas.{none_left, begins, is_placed}
 use Rattle.floyd_check_stub.proofs.left.placed_token.Goals as goal
 

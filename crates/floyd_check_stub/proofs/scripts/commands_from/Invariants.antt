@@ -1,6 +1,6 @@
 use Rattle.std.proofs.Common.{◌≡◌, [], length}
-use Rattle.floyd_check_stub.specs.Left.{left}
-use Rattle.floyd_check_stub.specs.Reading.{commands_of}
+use Rattle.floyd_check_stub.specs.LeftClauses.{left}
+use Rattle.floyd_check_stub.specs.ReadingClauses.{commands_of}
 use Rattle.floyd_check_stub.proofs.scripts.commands_from.Given as goal
 
 abbrev pub invariant-commands : goal.invariant-commands

@@ -1,7 +1,7 @@
 use Rattle.std.proofs.Common.{◌≡◌, ℕ, List, Option, subst, sym, ap, ◌∙◌}
 use Rattle.floyd_lex.specs.Token.{Token, tokens_in}
 use Rattle.floyd_check_stub.specs.Forms.{ReadsAs, IsSpec, texts}
-use Rattle.floyd_check_stub.specs.Reading.{spec_of}
+use Rattle.floyd_check_stub.specs.ReadingClauses.{spec_of}
 use Rattle.floyd_check_stub.proofs.SpecForm.{spec_reads}
 use Rattle.floyd_check_stub.proofs.specifications.read_spec.Goals as goal
 

@@ -1,6 +1,6 @@
 use Rattle.std.proofs.Common.{◌<◌, length, map, drop, sym, ap, ◌∙◌, arith}
 use Rattle.std.proofs.lemmas.List.{length-drop}
-use Rattle.floyd_check_stub.specs.Reading.{after_all}
+use Rattle.floyd_check_stub.specs.ReadingClauses.{after_all}
 use Rattle.floyd_check_stub.proofs.Texts.{none_left}
 use Rattle.floyd_check_stub.proofs.word.after_all.Goals as goal
 

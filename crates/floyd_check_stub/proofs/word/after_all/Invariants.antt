@@ -1,7 +1,7 @@
 use Rattle.std.proofs.Common.{◌≡◌, map, drop}
 use Rattle.floyd_check_stub.specs.Forms.{texts}
-use Rattle.floyd_check_stub.specs.Left.{left}
-use Rattle.floyd_check_stub.specs.Reading.{after_all}
+use Rattle.floyd_check_stub.specs.LeftClauses.{left}
+use Rattle.floyd_check_stub.specs.ReadingClauses.{after_all}
 use Rattle.floyd_check_stub.proofs.word.after_all.Given as goal
 
 abbrev pub invariant-words : goal.invariant-words

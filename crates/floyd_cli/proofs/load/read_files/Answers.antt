@@ -5,7 +5,7 @@ use Rattle.std.proofs.lemmas.List.Elements.{All-nil, All-push}
 use Rattle.std.proofs.lemmas.List.Sums.{sum_by_push}
 use Rattle.floyd_text.specs.Outside.{Files}
 use Rattle.std.proofs.lemmas.Result.{err_from_is_err_and}
-use Rattle.floyd_cli.specs.Loads.{ReadsNext, HasNext}
+use Rattle.floyd_cli.specs.LoadClauses.{ReadsNext, HasNext}
 use Rattle.floyd_cli.proofs.LoadLemmas.{Leads, leads_start, leads_more_at, leads_end_at, named_more_at, stopped_at}
 use Rattle.floyd_cli.proofs.load.read_files.Goals as goal
 

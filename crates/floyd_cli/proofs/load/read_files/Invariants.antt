@@ -1,7 +1,7 @@
 use Rattle.std.proofs.Common.{◌≡◌, ◌≤◌, drop, length}
 use Rattle.std.specs.Prelude.{All}
 use Rattle.std.specs.List.{sum_by}
-use Rattle.floyd_cli.specs.Loads.{AreNamed}
+use Rattle.floyd_cli.specs.LoadClauses.{AreNamed}
 use Rattle.floyd_cli.proofs.LoadLemmas.{Leads}
 use Rattle.floyd_cli.proofs.load.read_files.Given as goal
 

@@ -13,7 +13,7 @@ returns-clause-sound g c =
     let old = g.K.Sink.written c.args.out.now in
     let new = g.K.Sink.written c.answer_words.new.out in
     done_sound (map string_bytes c.args.words.now.items) held shelf sink old new c.answer_words.result
-    (subst (λ ws. Causes (map string_bytes ws) held shelf sink old new c.answer_words.result) c.as_slice.ensures.value c.answer_words.ensures)
+    (subst (λ ws. Causes (map string_bytes ws) held shelf sink old new c.answer_words.result) c.as_slice.ensures.value c.answer_words.ensures.causes)
 
 pub returns-clause-exact : goal.returns-clause-exact
 returns-clause-exact g c =
@@ -23,4 +23,4 @@ returns-clause-exact g c =
     let old = g.K.Sink.written c.args.out.now in
     let new = g.K.Sink.written c.answer_words.new.out in
     exactly (map string_bytes c.args.words.now.items) held shelf sink old new c.answer_words.result
-    (subst (λ ws. Causes (map string_bytes ws) held shelf sink old new c.answer_words.result) c.as_slice.ensures.value c.answer_words.ensures)
+    (subst (λ ws. Causes (map string_bytes ws) held shelf sink old new c.answer_words.result) c.as_slice.ensures.value c.answer_words.ensures.causes)

@@ -2,22 +2,30 @@
 use Rattle.std.specs.Prelude.{◌≡◌, ℕ, List, Option, Result, Ok, Err}
 use Rattle.floyd_text.specs.declared.refusal.Refusal.{Refusal}
 use Rattle.floyd_text.specs.Outside.{Files, Rose, Appends, AppendsFront}
-use Rattle.floyd_check.specs.Verdict.{Program, JudgesFiles}
+use Rattle.floyd_check.specs.Verdict.{JudgesThree}
+use Rattle.floyd_stub_soundness.specs.declared.program.MainProgram.{MainProgram}
 use Rattle.floyd_cli.specs.declared.status.Status.{Status}
 use Rattle.floyd_cli.specs.declared.status.Status.TheVariants as s
 use Rattle.floyd_cli.specs.declared.top.Answer.{Answer}
 use Rattle.floyd_cli.specs.declared.top.AnswerStop.{AnswerStop}
 use Rattle.floyd_cli.specs.declared.top.AnswerStop.TheVariants.{Fault, Memory}
-use Rattle.floyd_cli.specs.Texts.{usage_text}
+use Rattle.floyd_text.specs.declared.refusal.Halt.{Halt}
+use Rattle.floyd_text.specs.declared.refusal.Halt.TheVariants.{Refused, Memory as Out}
+use Rattle.floyd_cli.specs.Texts.{refusal_text, usage_text}
 use Rattle.floyd_cli.specs.Causes.{SoundIf, status_of, verdict_text, Judged}
 
 -- the status and the text of the verdict on these files, which have these names
 pub record JudgedFiles (files names : List (List ℕ)) (a : Answer) : Type 0 where
-  pub verdict : Result Program Refusal
-  pub is : JudgesFiles files verdict
+  pub verdict : Result MainProgram Refusal
+  pub is : JudgesThree files verdict
   pub sound : SoundIf verdict
   pub status_is : a.status ≡ status_of verdict
   pub text_is : a.text ≡ verdict_text names verdict
+
+-- the line of a refusal, where the files have these names; there is none where memory ran out
+abbrev pub IsRefusalAnswer : List (List ℕ) → Halt → Answer → Type 0
+IsRefusalAnswer names (Refused r) a = a ≡ record { status = s.Refused; text = refusal_text names r }
+IsRefusalAnswer names Out a = ⊥
 
 -- what is answered of the project of that name, where the count of faults was and is so
 abbrev pub GivesAnswer : Option Files → List ℕ → ℕ → ℕ → Result Answer AnswerStop → Type 0

@@ -2,10 +2,11 @@
 use Rattle.std.specs.Prelude.{ℕ, Bool, true, false, ◌==◌, ◌&&◌, not, nat_le, bytes_eq, if◌then◌else◌, List, [], ◌∷◌, ◌++◌, Option, Some, None, codes}
 use Rattle.std.specs.List.{list_all}
 use Rattle.std.specs.Str.Parse.{digits_value}
-use Rattle.floyd_text.specs.declared.refusal.Rule.{Rule}
+use Rattle.floyd_text.specs.declared.place.Place.{Place}
+use Rattle.floyd_text.specs.declared.rule.Rule.{Rule}
 use Rattle.floyd_lex.specs.Token.{Token}
-use Rattle.floyd_check_stub.specs.declared.form.Entry.{Entry}
-use Rattle.floyd_check_stub.specs.declared.form.Script.{Script}
+use Rattle.floyd_stub_goal.specs.declared.script.Command.{Command}
+use Rattle.floyd_stub_goal.specs.declared.script.Proof.{Proof}
 use Rattle.floyd_check_stub.specs.Forms.{rule_of}
 
 -- what follows these texts
@@ -54,7 +55,7 @@ spec_after (Some (n ∷ ts)) = if is_end (after_all spec_end ts) then int_of n e
 abbrev pub spec_of : List (List ℕ) → Option ℕ
 spec_of ts = spec_after (after_all spec_head ts)
 
-abbrev pub with_rule : (Rule → Option Script) → Option Rule → Option Script
+abbrev pub with_rule : (Rule → Option Proof) → Option Rule → Option Proof
 with_rule rest None = None
 with_rule rest (Some rule) = rest rule
 
@@ -62,14 +63,18 @@ with_rule rest (Some rule) = rest rule
 abbrev pub command_of : List ℕ → List ℕ → Option Rule
 command_of word semicolon = if bytes_eq semicolon (codes ";") then rule_of word else None
 
--- the script whose commands go on so
-abbrev pub commands_of : List Entry → List Token → Option Script
+-- the proof of main with these commands, if this word is `QED`
+abbrev pub main_proof : List Command → List ℕ → Place → Option Proof
+main_proof entries word end = if bytes_eq word (codes "QED") then Some (record { name = codes "main"; commands = entries; end = end }) else None
+
+-- the proof whose commands go on so
+abbrev pub commands_of : List Command → List Token → Option Proof
 commands_of entries [] = None
-commands_of entries (q ∷ []) = if bytes_eq q.text (codes "QED") then Some (record { commands = entries; end = q.place }) else None
+commands_of entries (q ∷ []) = main_proof entries q.text q.place
 commands_of entries (c ∷ s ∷ ts) =
     with_rule (λ r. commands_of (entries ++ record { rule = r; place = c.place } ∷ []) ts) (command_of c.text s.text)
 
-abbrev pub script_of : List Token → Option Script
+abbrev pub script_of : List Token → Option Proof
 script_of (proof ∷ name ∷ ts) =
     if bytes_eq proof.text (codes "PROOF") && bytes_eq name.text (codes "main") then commands_of [] ts else None
 script_of short = None

@@ -1,5 +1,0 @@
-use Rattle.std.proofs.Common.{◌≡◌, take}
-use Rattle.floyd_check.proofs.program.shared_statements.Given as goal
-
-abbrev pub invariant-statements : goal.invariant-statements
-invariant-statements l = l.all ≡ take l.statement-index l.statements
