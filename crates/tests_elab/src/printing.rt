@@ -1,9 +1,9 @@
 //! Clight as short text.
 //!
-//! A type is read from left to right: `int*[3]` is an array of three pointers. A temporary is written by its name, and what
-//! has a place in memory with `@` before it. `=` sets a temporary and `:=` stores. With `typed` each expression has its type
-//! behind it.
-use floyd_clight::{Expr, Stmt, UnaryOp};
+//! A type is read from left to right: `int*[3]` is an array of three pointers. A temporary is written by its name, a
+//! variable or a function of the file with `@` before it, a local variable with a block in brackets. `=` sets a temporary
+//! and `:=` stores. With `typed` each expression has its type behind it.
+use floyd_clight::{Binding, Expr, Stmt, UnaryOp};
 use floyd_ctypes::CType;
 use floyd_int::{IntKind, IntOp, Value};
 use floyd_text::Name;
@@ -121,10 +121,19 @@ fn print_constant(text: &mut String, value: Value, t: &CType) -> Result<(), Allo
     print_suffix(text, value, t)
 }
 
-/// A variable, with what stands before its name.
-fn print_variable(text: &mut String, before: &str, name: &Name) -> Result<(), AllocError> {
-    text.push_str(before)?;
-    print_name(text, name)
+/// A variable with a place, or a function.
+fn print_variable(text: &mut String, binding: Binding, name: &Name) -> Result<(), AllocError> {
+    match binding {
+        Binding::File => {
+            text.push('@')?;
+            print_name(text, name)
+        }
+        Binding::Block => {
+            text.push('[')?;
+            print_name(text, name)?;
+            text.push(']')
+        }
+    }
 }
 
 /// A type before what is cast to it, or behind `sizeof`.
@@ -151,7 +160,7 @@ pub(crate) fn print_expr(text: &mut String, typed: bool, e: &Expr) -> Result<(),
     match e {
         Expr::Const(value, t) => print_constant(text, *value, t)?,
         Expr::Temp(name, _) => print_name(text, name)?,
-        Expr::Var(name, _) => print_variable(text, "@", name)?,
+        Expr::Var(binding, name, _) => print_variable(text, *binding, name)?,
         Expr::Deref(inner, _) => print_before(text, typed, '*', inner.get())?,
         Expr::AddrOf(inner, _) => print_before(text, typed, '&', inner.get())?,
         Expr::Unary(op, inner, _) => print_before(text, typed, sign(*op), inner.get())?,
@@ -277,6 +286,7 @@ pub(crate) fn print_stmt(text: &mut String, typed: bool, s: &Stmt) -> Result<(),
         Stmt::Break => text.push_str("break;"),
         Stmt::Continue => text.push_str("continue;"),
         Stmt::Return(e) => print_return(text, typed, e),
+        Stmt::Switch(_, _) => text.push_str("switch?"),
     }
 }
 

@@ -1,632 +1,153 @@
-//! The sort table, row by row, as the format of specifications has it: each head once with kids that it takes, and
-//! with kids that it does not take.
 ghost use Rattle.std.specs.Prelude.{◌≡◌, ◌<◌};
 
-use floyd_text::{Name, Shared, Steps};
-use floyd_tree::{Head, MakeStop, Shape, Sort, SortList, Term, Width, make, sort};
-use sqlite_items::Items;
-use std::alloc::{AllocError, Global};
-use std::marker::Brand;
+use crate::heads::sort_of;
+use crate::large::replaces_leftmost;
+use crate::terms::{DEPTH, formula_of, term_of};
+use crate::trees::{Stop, Tree, part};
+use floyd_text::Steps;
+use floyd_tree::{
+    Term, equal, formula_mentions, formula_size, height, mentions, rewrite_at, size, sort, subst,
+};
+use std::alloc::Global;
 use std::sync::ledger::{Blank, Ledger};
-use std::test::Fail;
 
-/// Terms of these sorts stand at these places of the samples.
-const Z: usize = 0;
-
-const VAL: usize = 1;
-
-const LIST_Z: usize = 2;
-
-const LIST_VAL: usize = 3;
-
-const TREE_Z: usize = 4;
-
-const PAIR: usize = 5;
-/// No sort: the row is refused.
-const NONE: usize = 9;
-
-/// A head by its number, the samples that are its kids, and the sample of the sort that it gives.
-struct Row {
-    head: u8,
-    kids: &'static [usize],
-    sort: usize,
-}
-
-static ROWS: [Row; 92] = [
-    Row {
-        head: 0,
-        kids: &[],
-        sort: VAL,
-    },
-    Row {
-        head: 0,
-        kids: &[Z],
-        sort: NONE,
-    },
-    Row {
-        head: 3,
-        kids: &[],
-        sort: VAL,
-    },
-    Row {
-        head: 3,
-        kids: &[Z],
-        sort: NONE,
-    },
-    Row {
-        head: 1,
-        kids: &[Z],
-        sort: VAL,
-    },
-    Row {
-        head: 1,
-        kids: &[VAL],
-        sort: NONE,
-    },
-    Row {
-        head: 2,
-        kids: &[Z],
-        sort: VAL,
-    },
-    Row {
-        head: 2,
-        kids: &[VAL],
-        sort: NONE,
-    },
-    Row {
-        head: 4,
-        kids: &[VAL, Z],
-        sort: VAL,
-    },
-    Row {
-        head: 4,
-        kids: &[Z, VAL],
-        sort: NONE,
-    },
-    Row {
-        head: 5,
-        kids: &[LIST_Z],
-        sort: LIST_VAL,
-    },
-    Row {
-        head: 5,
-        kids: &[LIST_VAL],
-        sort: NONE,
-    },
-    Row {
-        head: 6,
-        kids: &[LIST_Z],
-        sort: LIST_VAL,
-    },
-    Row {
-        head: 6,
-        kids: &[LIST_VAL],
-        sort: NONE,
-    },
-    Row {
-        head: 7,
-        kids: &[PAIR],
-        sort: Z,
-    },
-    Row {
-        head: 7,
-        kids: &[Z],
-        sort: NONE,
-    },
-    Row {
-        head: 8,
-        kids: &[PAIR],
-        sort: VAL,
-    },
-    Row {
-        head: 8,
-        kids: &[LIST_Z],
-        sort: NONE,
-    },
-    Row {
-        head: 9,
-        kids: &[LIST_VAL],
-        sort: Z,
-    },
-    Row {
-        head: 9,
-        kids: &[TREE_Z],
-        sort: NONE,
-    },
-    Row {
-        head: 10,
-        kids: &[Z, LIST_VAL],
-        sort: VAL,
-    },
-    Row {
-        head: 10,
-        kids: &[LIST_VAL, Z],
-        sort: NONE,
-    },
-    Row {
-        head: 11,
-        kids: &[Z, VAL, LIST_VAL],
-        sort: LIST_VAL,
-    },
-    Row {
-        head: 11,
-        kids: &[Z, VAL, LIST_Z],
-        sort: NONE,
-    },
-    Row {
-        head: 12,
-        kids: &[LIST_Z],
-        sort: LIST_Z,
-    },
-    Row {
-        head: 12,
-        kids: &[Z],
-        sort: NONE,
-    },
-    Row {
-        head: 13,
-        kids: &[LIST_Z],
-        sort: Z,
-    },
-    Row {
-        head: 13,
-        kids: &[LIST_VAL],
-        sort: NONE,
-    },
-    Row {
-        head: 14,
-        kids: &[Z, Z, LIST_VAL],
-        sort: LIST_VAL,
-    },
-    Row {
-        head: 14,
-        kids: &[Z, LIST_VAL, Z],
-        sort: NONE,
-    },
-    Row {
-        head: 15,
-        kids: &[VAL, Z],
-        sort: LIST_VAL,
-    },
-    Row {
-        head: 15,
-        kids: &[Z, VAL],
-        sort: NONE,
-    },
-    Row {
-        head: 16,
-        kids: &[TREE_Z, Z, TREE_Z],
-        sort: TREE_Z,
-    },
-    Row {
-        head: 16,
-        kids: &[TREE_Z, VAL, TREE_Z],
-        sort: NONE,
-    },
-    Row {
-        head: 17,
-        kids: &[Z, Z],
-        sort: Z,
-    },
-    Row {
-        head: 17,
-        kids: &[Z, VAL],
-        sort: NONE,
-    },
-    Row {
-        head: 18,
-        kids: &[Z, Z],
-        sort: Z,
-    },
-    Row {
-        head: 18,
-        kids: &[Z, VAL],
-        sort: NONE,
-    },
-    Row {
-        head: 19,
-        kids: &[Z, Z],
-        sort: Z,
-    },
-    Row {
-        head: 19,
-        kids: &[Z, VAL],
-        sort: NONE,
-    },
-    Row {
-        head: 20,
-        kids: &[Z, Z],
-        sort: Z,
-    },
-    Row {
-        head: 20,
-        kids: &[Z, VAL],
-        sort: NONE,
-    },
-    Row {
-        head: 21,
-        kids: &[Z, Z],
-        sort: Z,
-    },
-    Row {
-        head: 21,
-        kids: &[Z, VAL],
-        sort: NONE,
-    },
-    Row {
-        head: 23,
-        kids: &[Z, Z],
-        sort: Z,
-    },
-    Row {
-        head: 23,
-        kids: &[Z, VAL],
-        sort: NONE,
-    },
-    Row {
-        head: 24,
-        kids: &[Z, Z],
-        sort: Z,
-    },
-    Row {
-        head: 24,
-        kids: &[Z, VAL],
-        sort: NONE,
-    },
-    Row {
-        head: 25,
-        kids: &[Z, Z],
-        sort: Z,
-    },
-    Row {
-        head: 25,
-        kids: &[Z, VAL],
-        sort: NONE,
-    },
-    Row {
-        head: 26,
-        kids: &[Z, Z],
-        sort: Z,
-    },
-    Row {
-        head: 26,
-        kids: &[Z, VAL],
-        sort: NONE,
-    },
-    Row {
-        head: 27,
-        kids: &[Z, Z],
-        sort: Z,
-    },
-    Row {
-        head: 27,
-        kids: &[Z, VAL],
-        sort: NONE,
-    },
-    Row {
-        head: 29,
-        kids: &[Z, Z],
-        sort: Z,
-    },
-    Row {
-        head: 29,
-        kids: &[Z, VAL],
-        sort: NONE,
-    },
-    Row {
-        head: 30,
-        kids: &[Z, Z],
-        sort: Z,
-    },
-    Row {
-        head: 30,
-        kids: &[Z, VAL],
-        sort: NONE,
-    },
-    Row {
-        head: 31,
-        kids: &[Z, Z],
-        sort: Z,
-    },
-    Row {
-        head: 31,
-        kids: &[Z, VAL],
-        sort: NONE,
-    },
-    Row {
-        head: 22,
-        kids: &[Z],
-        sort: Z,
-    },
-    Row {
-        head: 22,
-        kids: &[Z, Z],
-        sort: NONE,
-    },
-    Row {
-        head: 28,
-        kids: &[VAL, VAL],
-        sort: Z,
-    },
-    Row {
-        head: 28,
-        kids: &[VAL, Z],
-        sort: NONE,
-    },
-    Row {
-        head: 32,
-        kids: &[Z, LIST_Z],
-        sort: LIST_Z,
-    },
-    Row {
-        head: 32,
-        kids: &[VAL, LIST_Z],
-        sort: NONE,
-    },
-    Row {
-        head: 33,
-        kids: &[LIST_VAL, LIST_VAL],
-        sort: LIST_VAL,
-    },
-    Row {
-        head: 33,
-        kids: &[LIST_Z, LIST_VAL],
-        sort: NONE,
-    },
-    Row {
-        head: 34,
-        kids: &[Z, VAL],
-        sort: PAIR,
-    },
-    Row {
-        head: 34,
-        kids: &[Z],
-        sort: NONE,
-    },
-    Row {
-        head: 35,
-        kids: &[],
-        sort: Z,
-    },
-    Row {
-        head: 35,
-        kids: &[Z],
-        sort: NONE,
-    },
-    Row {
-        head: 41,
-        kids: &[],
-        sort: VAL,
-    },
-    Row {
-        head: 41,
-        kids: &[VAL],
-        sort: NONE,
-    },
-    Row {
-        head: 36,
-        kids: &[],
-        sort: VAL,
-    },
-    Row {
-        head: 36,
-        kids: &[VAL],
-        sort: NONE,
-    },
-    Row {
-        head: 37,
-        kids: &[],
-        sort: VAL,
-    },
-    Row {
-        head: 37,
-        kids: &[VAL],
-        sort: NONE,
-    },
-    Row {
-        head: 38,
-        kids: &[],
-        sort: LIST_Z,
-    },
-    Row {
-        head: 38,
-        kids: &[LIST_Z],
-        sort: NONE,
-    },
-    Row {
-        head: 39,
-        kids: &[],
-        sort: TREE_Z,
-    },
-    Row {
-        head: 39,
-        kids: &[TREE_Z],
-        sort: NONE,
-    },
-    Row {
-        head: 40,
-        kids: &[Z],
-        sort: Z,
-    },
-    Row {
-        head: 40,
-        kids: &[VAL],
-        sort: NONE,
-    },
-    Row {
-        head: 44,
-        kids: &[Z],
-        sort: Z,
-    },
-    Row {
-        head: 44,
-        kids: &[],
-        sort: NONE,
-    },
-    Row {
-        head: 42,
-        kids: &[Z, Z],
-        sort: LIST_VAL,
-    },
-    Row {
-        head: 42,
-        kids: &[Z],
-        sort: NONE,
-    },
-    Row {
-        head: 42,
-        kids: &[Z, VAL],
-        sort: NONE,
-    },
-    Row {
-        head: 43,
-        kids: &[Z, VAL],
-        sort: Z,
-    },
-    Row {
-        head: 43,
-        kids: &[VAL, Z],
-        sort: NONE,
-    },
-    Row {
-        head: 43,
-        kids: &[Z],
-        sort: NONE,
-    },
-];
-
-fn head_of(alloc: Global, number: u8) -> Result<Head, AllocError> {
-    match number {
-        0 => Ok(Head::Vundef),
-        1 => Ok(Head::Vint),
-        2 => Ok(Head::Vlong),
-        3 => Ok(Head::Nullval),
-        4 => Ok(Head::PtrAdd),
-        5 => Ok(Head::Vints),
-        6 => Ok(Head::Vlongs),
-        7 => Ok(Head::Fst),
-        8 => Ok(Head::Snd),
-        9 => Ok(Head::Len),
-        10 => Ok(Head::Nth),
-        11 => Ok(Head::Upd),
-        12 => Ok(Head::Rev),
-        13 => Ok(Head::Sum),
-        14 => Ok(Head::Sublist),
-        15 => Ok(Head::Repeat),
-        16 => Ok(Head::Node),
-        17 => Ok(Head::Quot),
-        18 => Ok(Head::Rem),
-        19 => Ok(Head::Band),
-        20 => Ok(Head::Bor),
-        21 => Ok(Head::Bxor),
-        22 => Ok(Head::Bnot),
-        23 => Ok(Head::Shl),
-        24 => Ok(Head::Shr),
-        25 => Ok(Head::Eqz),
-        26 => Ok(Head::Ltz),
-        27 => Ok(Head::Lez),
-        28 => Ok(Head::Eqv),
-        29 => Ok(Head::Add),
-        30 => Ok(Head::Sub),
-        31 => Ok(Head::Mul),
-        32 => Ok(Head::Cons),
-        33 => Ok(Head::Append),
-        34 => Ok(Head::Pair),
-        35 => Ok(Head::Literal(-7)),
-        36 => Ok(Head::Gv(Name::from_slice(alloc, b"g")?)),
-        37 => Ok(Head::Lv(Name::from_slice(alloc, b"l")?)),
-        38 => Ok(Head::Nil(Sort::Z)),
-        39 => Ok(Head::Leaf(Sort::Z)),
-        40 => Ok(Head::Signed(Width::Bits8)),
-        44 => Ok(Head::Unsigned(Width::Bits64)),
-        41 => Ok(Head::Variable(Name::from_slice(alloc, b"x")?, Sort::Val)),
-        42 => Ok(Head::Default(one_array(alloc)?, Sort::list_of(alloc, Sort::Val)?)),
-        43 => two_arguments(alloc),
-        _ => Ok(Head::Vundef),
+/// Whether a refusal is the answer that the row has.
+fn is_answer(stop: Stop, answer: &Tree) -> Result<bool, Stop> {
+    match stop {
+        Stop::Memory | Stop::Unreadable => Err(stop),
+        Stop::IllSorted | Stop::TooLarge | Stop::Absent => { Ok(answer.word() == stop.word()) }
     }
 }
 
-/// The shape of an array of pointers to arrays.
-fn one_array(alloc: Global) -> Result<Shared<Shape>, AllocError> {
-    let inner = Shape::Array(Shared::new(alloc, Shape::Void)?);
-    let pointer = Shape::Pointer(Shared::new(alloc, inner)?);
-    Shared::new(alloc, Shape::Array(Shared::new(alloc, pointer)?))
+/// Whether the row has that answer: `yes` or `no`.
+fn says(answer: &Tree, yes: bool) -> bool {
+    answer.word() == if yes { "yes" } else { "no" }
 }
 
-/// A function of a number and a value.
-fn two_arguments(alloc: Global) -> Result<Head, AllocError> {
-    let mut arguments: SortList = Items::new(alloc);
-    arguments.push(Sort::Z)?;
-    arguments.push(Sort::Val)?;
-    let name = Name::from_slice(alloc, b"f")?;
-    Ok(Head::Fun(name, Shared::new(alloc, arguments)?, Sort::Z))
-}
-
-fn samples<L: Ledger>(alloc: Global, steps: &mut Steps<L>) -> Result<Vec<Term>, MakeStop> {
-    let mut all = Vec::new(alloc);
-    all.push(make(alloc, Head::Literal(1), &[], steps)?)?;
-    all.push(make(alloc, Head::Vundef, &[], steps)?)?;
-    all.push(make(alloc, Head::Nil(Sort::Z), &[], steps)?)?;
-    all.push(make(alloc, Head::Nil(Sort::Val), &[], steps)?)?;
-    all.push(make(alloc, Head::Leaf(Sort::Z), &[], steps)?)?;
-    let pair = make(
-        alloc,
-        Head::Pair,
-        &all.as_slice()[..2.min(all.len())],
-        steps,
-    )?;
-    all.push(pair)?;
-    Ok(all)
-}
-
-fn chosen(alloc: Global, samples: &[Term], places: &[usize]) -> Result<Vec<Term>, AllocError> {
-    let mut all = Vec::new(alloc);
-    'places: for place in places {
-        if let Some(term) = samples.get(*place) {
-            all.push(term.share()?)?;
-        }
-    }
-    Ok(all)
-}
-
-/// Whether the row gives what the table says.
-fn is_right<L: Ledger>(
+/// Whether the term, or the refusal, is the answer that the row has.
+fn is_term<L: Ledger>(
     alloc: Global,
-    samples: &[Term],
-    row: &Row,
+    given: Result<Term, Stop>,
+    answer: &Tree,
     steps: &mut Steps<L>,
-) -> Result<bool, MakeStop> {
-    let head = head_of(alloc, row.head)?;
-    let kids = chosen(alloc, samples, row.kids)?;
-    match make(alloc, head, kids.as_slice(), steps) {
-        Ok(term) => match samples.get(row.sort) {
-            Some(sample) => Ok(sort(&term).same(sort(sample))),
-            None => Ok(false),
-        },
-        Err(MakeStop::IllSorted) => Ok(row.sort == NONE),
-        Err(stop) => Err(stop),
+) -> Result<bool, Stop> {
+    match given {
+        Ok(term) => Ok(equal(&term, &term_of(alloc, answer, DEPTH, steps)?)),
+        Err(stop) => is_answer(stop, answer),
     }
 }
 
-/// The number of the first row that is not right.
-fn first_wrong<L: Ledger>(alloc: Global, blank: Blank) -> Result<Option<usize>, MakeStop>
+/// `sort TERM SORT`, or why the term is not made.
+fn sort_row<L: Ledger>(alloc: Global, row: &[Tree], steps: &mut Steps<L>) -> Result<bool, Stop> {
+    let answer = part(row, 2)?;
+    match term_of(alloc, part(row, 1)?, DEPTH, steps) {
+        Ok(term) => Ok(sort(&term).same(&sort_of(alloc, answer)?)),
+        Err(stop) => is_answer(stop, answer),
+    }
+}
+
+/// `formula FORMULA made`, or why it is not made.
+fn formula_row<L: Ledger>(alloc: Global, row: &[Tree], steps: &mut Steps<L>) -> Result<bool, Stop> {
+    let answer = part(row, 2)?;
+    match formula_of(alloc, part(row, 1)?, DEPTH, steps) {
+        Ok(_) => Ok(answer.word() == "made"),
+        Err(stop) => is_answer(stop, answer),
+    }
+}
+
+/// `measures TERM SIZE HEIGHT`.
+fn measures_row<L: Ledger>(
+    alloc: Global,
+    row: &[Tree],
+    steps: &mut Steps<L>,
+) -> Result<bool, Stop> {
+    let term = term_of(alloc, part(row, 1)?, DEPTH, steps)?;
+    Ok(size(&term) == part(row, 2)?.count()? && height(&term) == part(row, 3)?.count()?)
+}
+
+/// `formula-measures FORMULA SIZE HEIGHT`.
+fn formula_measures_row<L: Ledger>(
+    alloc: Global,
+    row: &[Tree],
+    steps: &mut Steps<L>,
+) -> Result<bool, Stop> {
+    let formula = formula_of(alloc, part(row, 1)?, DEPTH, steps)?;
+    Ok(
+        formula_size(&formula) == part(row, 2)?.count()?
+            && formula.height() == part(row, 3)?.count()?,
+    )
+}
+
+/// `equal TERM TERM yes`, or `no`.
+fn equal_row<L: Ledger>(alloc: Global, row: &[Tree], steps: &mut Steps<L>) -> Result<bool, Stop> {
+    let a = term_of(alloc, part(row, 1)?, DEPTH, steps)?;
+    let b = term_of(alloc, part(row, 2)?, DEPTH, steps)?;
+    Ok(says(part(row, 3)?, equal(&a, &b)))
+}
+
+/// `mentions TERM NAME yes`, or `no`.
+fn mentions_row<L: Ledger>(
+    alloc: Global,
+    row: &[Tree],
+    steps: &mut Steps<L>,
+) -> Result<bool, Stop> {
+    let term = term_of(alloc, part(row, 1)?, DEPTH, steps)?;
+    Ok(says(part(row, 3)?, mentions(&term, &part(row, 2)?.name()?)))
+}
+
+/// `free FORMULA NAME yes`, or `no`.
+fn free_row<L: Ledger>(alloc: Global, row: &[Tree], steps: &mut Steps<L>) -> Result<bool, Stop> {
+    let formula = formula_of(alloc, part(row, 1)?, DEPTH, steps)?;
+    Ok(says(
+        part(row, 3)?,
+        formula_mentions(&formula, &part(row, 2)?.name()?),
+    ))
+}
+
+/// `subst TERM NAME BY TERM`, or the refusal.
+fn subst_row<L: Ledger>(alloc: Global, row: &[Tree], steps: &mut Steps<L>) -> Result<bool, Stop> {
+    let term = term_of(alloc, part(row, 1)?, DEPTH, steps)?;
+    let by = term_of(alloc, part(row, 3)?, DEPTH, steps)?;
+    let result = match subst(alloc, &term, &part(row, 2)?.name()?, &by, steps) {
+        Ok(term) => Ok(term),
+        Err(stop) => Err(Stop::from(stop)),
+    };
+    is_term(alloc, result, part(row, 4)?, steps)
+}
+
+/// `rewrite TERM (PLACE ..) BY TERM`, or the refusal.
+fn rewrite_row<L: Ledger>(alloc: Global, row: &[Tree], steps: &mut Steps<L>) -> Result<bool, Stop> {
+    let term = term_of(alloc, part(row, 1)?, DEPTH, steps)?;
+    let by = term_of(alloc, part(row, 3)?, DEPTH, steps)?;
+    let mut path = Vec::new(alloc);
+    'places: for place in part(row, 2)?.parts() {
+        path.push(place.count()?)?;
+    }
+    let result = match rewrite_at(alloc, &term, path.as_slice(), &by, steps) {
+        Ok(term) => Ok(term),
+        Err(stop) => Err(Stop::from(stop)),
+    };
+    is_term(alloc, result, part(row, 4)?, steps)
+}
+
+/// Whether the row answers as it says.
+pub fn agrees<L: Ledger>(alloc: Global, row: &[Tree], blank: Blank) -> Result<bool, Stop>
     requires name { blank.name ≡ L.name }
     requires parts { blank.parts ≡ L.parts }
     requires some { 0 < blank.parts }
 {
     let mut steps = Steps::<L>::new(blank);
-    let samples = samples(alloc, &mut steps)?;
-    'rows: for (i, row) in ROWS.iter().enumerate() {
-        if !is_right(alloc, samples.as_slice(), row, &mut steps)? {
-            return Ok(Some(i));
-        }
+    match part(row, 0)?.word() {
+        "sort" => sort_row(alloc, row, &mut steps),
+        "formula" => formula_row(alloc, row, &mut steps),
+        "measures" => measures_row(alloc, row, &mut steps),
+        "formula-measures" => formula_measures_row(alloc, row, &mut steps),
+        "equal" => equal_row(alloc, row, &mut steps),
+        "mentions" => mentions_row(alloc, row, &mut steps),
+        "free" => free_row(alloc, row, &mut steps),
+        "subst" => subst_row(alloc, row, &mut steps),
+        "rewrite" => rewrite_row(alloc, row, &mut steps),
+        "leftmost" => replaces_leftmost(alloc, part(row, 1)?.count()?, &mut steps),
+        _ => Err(Stop::Unreadable),
     }
-    Ok(None)
-}
-
-#[test]
-fn each_head_has_its_row(rt: HostRuntime) -> Result<(), Fail> {
-    let wrong = first_wrong::<Brand>(rt.alloc(), Blank::new(1))?;
-    assert_eq!(rt; wrong, None);
-    Ok(())
 }

@@ -1,9 +1,7 @@
 //! The operators and casts of integers, compared with what gcc gives.
 
-use crate::tables::{CASTS, OPERATIONS};
+use crate::words::{Stop, kind_of, number, some_number, word};
 use floyd_int::{IntKind, IntOp, binary, cast, negate, repr};
-use std::process::Abort;
-use std::test::Fail;
 
 static KINDS: [IntKind; 8] = [
     IntKind::I8,
@@ -38,91 +36,69 @@ static COMPARISONS: [IntOp; 6] = [
     IntOp::Ge,
 ];
 
-fn kind_of(word: &str) -> Option<IntKind> {
-    match word {
-        "I8" => Some(IntKind::I8),
-        "U8" => Some(IntKind::U8),
-        "I16" => Some(IntKind::I16),
-        "U16" => Some(IntKind::U16),
-        "I32" => Some(IntKind::I32),
-        "U32" => Some(IntKind::U32),
-        "I64" => Some(IntKind::I64),
-        "U64" => Some(IntKind::U64),
-        _ => None,
+/// Whether the operators give what the words say, of bits of this kind.
+fn give(
+    operators: &[IntOp],
+    kind: IntKind,
+    first: u64,
+    second: u64,
+    wanted: &[&str],
+) -> Result<bool, Stop> {
+    if kind.width() < 32 {
+        return Err(Stop::Unreadable);
     }
-}
-
-/// The number that a word of a table gives, or None for `-`.
-fn number_of(word: Option<&str>) -> Result<Option<u64>, Fail> {
-    let word = word.ok_or("a line is too short")?;
-    if word == "-" {
-        Ok(None)
-    } else {
-        Ok(Some(u64::from_str_radix(word, 16).ok().ok_or("not a number")?))
-    }
-}
-
-fn check_operators(rt: &impl Abort, line: &str) -> Result<(), Fail> {
-    let mut words = line.split(' ');
-    let kind = kind_of(words.next().ok_or("an empty line")?).ok_or("not a kind")?;
-    assert!(rt; kind.width() >= 32);
-    let first = number_of(words.next())?.ok_or("no operand")?;
-    let second = number_of(words.next())?.ok_or("no operand")?;
     let a = repr(kind, i128::from(first));
     let b = repr(kind, i128::from(second));
-    assert_eq!(rt; (a, b), (first, second), "operands in {line}");
-    for op in &OPERATORS {
-        let want = number_of(words.next())?;
-        assert_eq!(rt; binary(*op, kind, a, b), want, "{op:?} in {line}");
+    if a != first || b != second || operators.len() != wanted.len() {
+        return Err(Stop::Unreadable);
     }
-    let want = number_of(words.next())?;
-    assert_eq!(rt; negate(kind, a), want, "negation in {line}");
-    for op in &COMPARISONS {
-        let want = number_of(words.next())?;
-        assert_eq!(rt; binary(*op, kind, a, b), want, "{op:?} in {line}");
+    'operators: for (op, want) in operators.iter().zip(wanted.iter()) {
+        if binary(*op, kind, a, b) != some_number(want, 16)? {
+            return Ok(false);
+        }
     }
-    Ok(())
+    Ok(true)
 }
 
-fn check_casts(rt: &impl Abort, line: &str) -> Result<(), Fail> {
-    let mut words = line.split(' ');
-    let from = kind_of(words.next().ok_or("an empty line")?).ok_or("not a kind")?;
-    let given = number_of(words.next())?.ok_or("no bits")?;
-    let bits = repr(from, i128::from(given));
-    assert_eq!(rt; bits, given, "bits in {line}");
-    for to in &KINDS {
-        let want = number_of(words.next())?;
-        assert_eq!(rt;
-            Some(cast(bits, from, *to)),
-            want,
-            "cast to {to:?} in {line}"
-        );
+/// Whether the negation is what the word says.
+fn negates(kind: IntKind, first: u64, want: &str) -> Result<bool, Stop> {
+    if kind.width() < 32 {
+        return Err(Stop::Unreadable);
     }
-    Ok(())
+    Ok(negate(kind, repr(kind, i128::from(first))) == some_number(want, 16)?)
 }
 
-#[test]
-fn operators_give_what_gcc_gives(rt: HostRuntime) -> Result<(), Fail> {
-    for line in OPERATIONS.lines() {
-        check_operators(&rt, line)?;
-    }
-    Ok(())
+/// A kind, two operands, and the results of the operators, of the negation and of the comparisons.
+pub fn agrees(row: &[&str]) -> Result<bool, Stop> {
+    let Some(kind) = kind_of(word(row, 0)?) else {
+        return Err(Stop::Unreadable);
+    };
+    let first = number(word(row, 1)?, 16)?;
+    let second = number(word(row, 2)?, 16)?;
+    let results = row.get(3..13).unwrap_or(&[]);
+    let comparisons = row.get(14..).unwrap_or(&[]);
+    Ok(
+        give(&OPERATORS, kind, first, second, results)?
+            && negates(kind, first, word(row, 13)?)?
+            && give(&COMPARISONS, kind, first, second, comparisons)?,
+    )
 }
 
-#[test]
-fn casts_give_what_gcc_gives(rt: HostRuntime) -> Result<(), Fail> {
-    for line in CASTS.lines() {
-        check_casts(&rt, line)?;
+/// A kind, bits, and their casts to each kind.
+pub fn cast_agrees(row: &[&str]) -> Result<bool, Stop> {
+    let Some(kind) = kind_of(word(row, 0)?) else {
+        return Err(Stop::Unreadable);
+    };
+    let given = number(word(row, 1)?, 16)?;
+    let bits = repr(kind, i128::from(given));
+    let wanted = row.get(2..).unwrap_or(&[]);
+    if bits != given || wanted.len() != KINDS.len() {
+        return Err(Stop::Unreadable);
     }
-    Ok(())
-}
-
-#[test]
-fn worked_examples(rt: HostRuntime) {
-    assert_eq!(rt;
-        binary(IntOp::Div, IntKind::I32, 2_147_483_648, 4_294_967_295),
-        None
-    );
-    assert_eq!(rt; binary(IntOp::Add, IntKind::U32, 4_294_967_295, 1), Some(0));
-    assert_eq!(rt; cast(384, IntKind::U32, IntKind::I8), 128);
+    'kinds: for (to, want) in KINDS.iter().zip(wanted.iter()) {
+        if cast(bits, kind, *to) != number(want, 16)? {
+            return Ok(false);
+        }
+    }
+    Ok(true)
 }

@@ -1,5 +1,0 @@
-use Rattle.std.proofs.Common.{length}
-use Rattle.tests_addresses.proofs.bodies.shown.Given as goal
-
-abbrev pub decreases-flags : goal.decreases-flags
-decreases-flags l = length l.flags

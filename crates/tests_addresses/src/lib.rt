@@ -1,5 +1,0 @@
-//! Tests of the flags of local variables.
-#![tactic(auto)]
-
-#[cfg(test)]
-mod bodies;

@@ -1,1 +1,0 @@
--- Definitions that contracts cite.

@@ -1,5 +1,0 @@
-//! Tests of flat lists of statements and of the words of their first ones.
-#![tactic(auto)]
-
-#[cfg(test)]
-mod statements;

@@ -1,9 +1,0 @@
-//! Tests of the reader of C.
-#![tactic(auto)]
-
-#[cfg(test)]
-mod pages;
-#[cfg(test)]
-mod parsing;
-#[cfg(test)]
-mod rows;

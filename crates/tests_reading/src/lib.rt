@@ -1,5 +1,0 @@
-//! Tests of the readers of files.
-#![tactic(auto)]
-
-#[cfg(test)]
-mod lexing;
