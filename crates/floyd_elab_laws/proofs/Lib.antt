@@ -17,3 +17,6 @@ pub mod ReadLemmas
 pub mod EffectLemmas
 pub mod PlaceLemmas
 pub mod LoadLemmas
+pub mod SameValueLemmas
+pub mod AlikeLemmas
+pub mod TypingLemmas

@@ -213,13 +213,13 @@ named_place i a None = variable_place kept.Global i.name a
 
 -- ---- what is refused inside an expression
 
-never_step : (place : position.Place) (a : Operand) (tags : Tags) → Gives (typed.nested_step place a tags) (λ r. ⊥)
+pub never_step : (place : position.Place) (a : Operand) (tags : Tags) → Gives (typed.nested_step place a tags) (λ r. ⊥)
 never_step place a tags = passing (unless (ill_typed place) (o.is_stepped tags.structs a) tags) (λ x s. refused)
 
-never_assigned : (place : position.Place) (a : Operand) (tags : Tags) → Gives (typed.nested_assignment place a tags) (λ r. ⊥)
+pub never_assigned : (place : position.Place) (a : Operand) (tags : Tags) → Gives (typed.nested_assignment place a tags) (λ r. ⊥)
 never_assigned place a tags = passing (unless (ill_typed place) (o.is_target a) tags) (λ x s. refused)
 
-never_called : (place : position.Place) (count : ℕ) (a : Operand) (tags : Tags) → Gives (typed.nested_call place count a tags) (λ r. ⊥)
+pub never_called : (place : position.Place) (count : ℕ) (a : Operand) (tags : Tags) → Gives (typed.nested_call place count a tags) (λ r. ⊥)
 never_called place count a tags = passing (unless (ill_typed place) (is_some (o.callee_signature count a)) tags) (λ x s. refused)
 
 refused_place : (t : Typing Operand) (a : Translated) (p : Progress) → ((tags : Tags) → Gives (t tags) (λ r. ⊥)) → Gives (elab.nested_refusal t a p) (λ r. Place r.0)
@@ -270,7 +270,7 @@ temporary_place : (ss : List Stmt) (s : Stmt) (x : List ℕ) (t : CType) (r : Op
 temporary_place ss s x t r h g = value_place (record { before = fine_append ss (s ∷ []) h (g, tt); reads = refl })
 
 -- the progress behind a number drawn for a temporary of that type
-abbrev drawn_for : CType → Progress → Progress
+abbrev pub drawn_for : CType → Progress → Progress
 drawn_for t p = record p { drawn = p.drawn + 1; temporaries = p.temporaries ++ record { name = pulled_name (p.drawn + 1); ctype = t } ∷ [] }
 
 module _ (scopes : Scopes) where

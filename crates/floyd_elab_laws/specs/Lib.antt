@@ -7,3 +7,4 @@ pub mod Running
 pub mod Laws
 pub mod Reads
 pub mod Places
+pub mod Typings

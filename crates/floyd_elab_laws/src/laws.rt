@@ -1,6 +1,7 @@
 ghost use Rattle.floyd_elab_laws.specs.Laws as specs;
 ghost use Rattle.floyd_elab_laws.specs.Places as places;
 ghost use Rattle.floyd_elab_laws.specs.Reads as reads;
+ghost use Rattle.floyd_elab_laws.specs.Typings as typings;
 
 /// Temporaries that hold what their types allow hold whole numbers.
 pub fn allowed_temporaries_hold_numbers()
@@ -52,4 +53,11 @@ pub fn memory_is_read_by_pulls()
     ensures values { reads.ValuesReadByPulls }
     ensures effects { reads.EffectsReadByPulls }
     ensures bodies { reads.BodiesReadByPulls }
+{}
+
+/// Elaboration finds in each expression the operand that typing finds, and refuses where typing refuses, with the same
+/// code at the same place; the expression of Clight has the type that typing gives.
+pub fn elaboration_types_as_typing_does()
+    ensures agree { typings.ElaborationTypesAsTypingDoes }
+    ensures types { typings.ExpressionsHaveTheirTypes }
 {}
