@@ -1,15 +1,17 @@
 -- The arguments of a law that fit have values of their sorts.
 use Rattle.std.proofs.Common.{◌≡◌, ℕ, Bool, true, false, cond, ℤ, List, [], ◌∷◌, Option, Some, None, Result, Ok, Err, All, refl, sym, ap, subst, ◌∙◌}
-use Rattle.std.specs.Prelude.{nat_eq, length}
+use Rattle.std.specs.Prelude.{nat_eq, length, option_and_then}
 use Rattle.std.proofs.lemmas.List.Elements.{All-head, All-tail}
 use Rattle.floyd_int.specs.declared.kinds.Value.{Value}
 use Rattle.floyd_text.specs.declared.refusal.No.{No}
 use Rattle.floyd_tree_sorts.specs.declared.operators.RowSort.{RowSort}
 use Rattle.floyd_tree_sorts.specs.declared.sorts.Sort.{Sort, Z, Val as ValSort}
 use Rattle.floyd_tree_sorts.specs.Sorts.{list_sort, same_sort}
-use Rattle.floyd_tree_sorts.specs.Table.{written}
+use Rattle.floyd_tree_sorts.specs.Table.{found, s_in, written}
 use Rattle.floyd_tree_sorts.proofs.SortLemmas.{both_true, same_sort_true}
 use Rattle.floyd_tree.specs.declared.stop.MakeStop.{MakeStop}
+use Rattle.floyd_tree.specs.Formulas.{formulas}
+use Rattle.floyd_tree.specs.MadeFormulas.{formula_faults}
 use Rattle.floyd_tree.specs.Plain.{Plain, plains}
 use Rattle.floyd_tree.specs.WellSorted.{sort_of, sorts_of, with_first}
 use Rattle.floyd_tree_values.specs.BuiltIns.{Env}
@@ -17,8 +19,9 @@ use Rattle.floyd_tree_values.specs.Data.{Datum, Data, Number, Val, Seq, Tree, Pa
 use Rattle.floyd_tree_values.specs.Means.{Defs}
 use Rattle.floyd_tree_values.specs.Rules.{Scope, Suits, DefsKeep}
 use Rattle.floyd_tree_values.proofs.AllFuns.{a_value}
+use Rattle.floyd_listlaw.specs.declared.instance.Law.{Law}
 use Rattle.floyd_listlaw.specs.declared.list_law.ListLaw.{ListLaw}
-use Rattle.floyd_listlaw.specs.Instances.{PlainLaw, within, says, fit_all, by_sorts, by_row, by_law}
+use Rattle.floyd_listlaw.specs.Instances.{within, says, formulas_in, fit_all, fixed_by, in_sort, by_row, by_law}
 use Rattle.floyd_listlaw.specs.Laws.{IsTerm}
 use Rattle.floyd_listlaw.specs.Table.{Row, row}
 use Rattle.floyd_listlaw.proofs.Values.{Is, IsNumber, IsVal, IsList}
@@ -121,26 +124,38 @@ module _ (defs : Defs) (scope : Scope) (env : Env) (keeps : DefsKeep defs) (suit
       )
 
 -- an instance comes from a row whose sorts the terms fit
-named : (name : List ℕ) (ts : List Plain) (law : PlainLaw) (o : Option ListLaw) → by_law name ts o ≡ Ok law → (l : ListLaw) × (by_row (row l) ts ≡ Ok law)
+named : (name : List ℕ) (ts : List Plain) (law : Law) (o : Option ListLaw) → by_law name ts o ≡ Ok law → (l : ListLaw) × (by_row (row l) ts ≡ Ok law)
 named name ts law None e = absurd cc
 named name ts law (Some l) e = (l, e)
 
-counted : (law : PlainLaw) (b : Bool) (x : Result PlainLaw No) (refusal : No) → cond b x (Err refusal) ≡ Ok law → x ≡ Ok law
+counted : (law : Law) (b : Bool) (x : Result Law No) (refusal : No) → cond b x (Err refusal) ≡ Ok law → x ≡ Ok law
 counted law true x refusal e = e
 counted law false x refusal e = absurd cc
 
-made : (law w : PlainLaw) (b : Bool) (o : Option MakeStop) (refusal : No) → cond b (within o w) (Err refusal) ≡ Ok law → (b ≡ true) × (w ≡ law)
-made law w true None refusal e = (refl, cc)
-made law w true (Some stop) refusal e = absurd cc
-made law w false o refusal e = absurd cc
+made : (law w : Law) (o : Option MakeStop) → within o w ≡ Ok law → w ≡ law
+made law w None e = cc
+made law w (Some stop) e = absurd cc
 
-sorted : (r : Row) (ts : List Plain) (law : PlainLaw) (o : Option (List Sort)) → by_sorts r ts o ≡ Ok law → (sorts : List Sort) × (o ≡ Some sorts) × (s : Sort) × (fit_all s r.arguments sorts ≡ true) × (says r s ts ≡ law)
+fixed : (s : Sort) (b : Bool) (found : Sort) → cond b (Some found) None ≡ Some s → (b ≡ true) × (found ≡ s)
+fixed s true found e = (refl, cc)
+fixed s false found e = absurd cc
+
+fitted : (forms : List RowSort) (s : Sort) (o : Option (List Sort)) → option_and_then (fixed_by forms) o ≡ Some s → (sorts : List Sort) × (o ≡ Some sorts) × (fit_all s forms sorts ≡ true)
+fitted forms s None e = absurd cc
+fitted forms s (Some sorts) e =
+    let p = fixed s (fit_all (found s_in forms sorts) forms sorts) (found s_in forms sorts) e in
+    (sorts, refl, subst (λ x. fit_all x forms sorts ≡ true) p.1 p.0)
+
+sorted : (r : Row) (ts : List Plain) (law : Law) (o : Option Sort) → in_sort r ts o ≡ Ok law → (s : Sort) × (o ≡ Some s) × (says r s ts ≡ law)
 sorted r ts law None e = absurd cc
-sorted r ts law (Some sorts) e = let p = made law _ _ _ _ e in (sorts, refl, _, p.0, p.1)
+sorted r ts law (Some s) e = (s, refl, made law (says r s ts) (formula_faults (formulas (formulas_in (says r s ts)))) e)
 
-pub comes_from : (name : List ℕ) (ts : List Plain) (law : PlainLaw) (o : Option ListLaw) → by_law name ts o ≡ Ok law →
+pub comes_from : (name : List ℕ) (ts : List Plain) (law : Law) (o : Option ListLaw) → by_law name ts o ≡ Ok law →
     (l : ListLaw) × (sorts : List Sort) × (sorts_of (plains ts) ≡ Some sorts) × (s : Sort) × (fit_all s (row l).arguments sorts ≡ true) × (says (row l) s ts ≡ law)
 comes_from name ts law o e =
     let n = named name ts law o e in
-    let p = sorted (row n.0) ts law (sorts_of (plains ts)) (counted law (nat_eq (length ts) (length (row n.0).arguments)) (by_sorts (row n.0) ts (sorts_of (plains ts))) _ n.1) in
-    (n.0, p.0, p.1, p.2, p.3, p.4)
+    let r = row n.0 in
+    let fixing = option_and_then (fixed_by r.arguments) (sorts_of (plains ts)) in
+    let p = sorted r ts law fixing (counted law (nat_eq (length ts) (length r.arguments)) (in_sort r ts fixing) _ n.1) in
+    let q = fitted r.arguments p.0 (sorts_of (plains ts)) p.1 in
+    (n.0, q.0, q.1, p.0, q.2, p.2)

@@ -1,5 +1,5 @@
 -- Each law is true.
-use Rattle.std.proofs.Common.{◌≡◌, ℕ, Bool, true, false, ℤ, pos, List, [], ◌∷◌, map, length, Ok, All, refl, sym, ap, subst, inl, inr, ⊎_elim, arith}
+use Rattle.std.proofs.Common.{◌≡◌, ℕ, Bool, true, false, ℤ, pos, List, [], ◌∷◌, map, length, refl, sym, ap, subst, inl, inr, ⊎_elim, arith}
 use Rattle.std.proofs.lemmas.Bool.{le-leb}
 use Rattle.std.proofs.lemmas.List.{append-nil, append_assoc, map-append, reverse-append, reverse-reverse, length-append, length-map, length-reverse}
 use mathlib.Core.List.{reverse-cons}
@@ -14,13 +14,11 @@ use Rattle.floyd_tree.specs.Plain.{Plain, At, Done, More}
 use Rattle.floyd_tree_values.specs.BuiltIns.{Env, at_place}
 use Rattle.floyd_tree_values.specs.Data.{Datum, Number, Val, seq, number_in, default_of}
 use Rattle.floyd_tree_values.specs.Means.{Defs, Means, none as no_data, more}
-use Rattle.floyd_tree_values.specs.Rules.{Scope, Suits, DefsKeep}
 use Rattle.floyd_tree_values.proofs.OneValue.{one_list}
 use Rattle.floyd_truth.specs.Truth.{Truth, AllTrue}
 use Rattle.floyd_listlaw.specs.declared.list_law.ListLaw.{ListLaw}
 use Rattle.floyd_listlaw.specs.declared.list_law.ListLaw.TheVariants as l
-use Rattle.floyd_listlaw.specs.Instances.{PlainLaw, instance}
-use Rattle.floyd_listlaw.specs.Laws.{IsTerm}
+use Rattle.floyd_listlaw.specs.Laws.{LawsHold}
 use Rattle.floyd_listlaw.specs.Names.{law_named}
 use Rattle.floyd_listlaw.specs.Table.{row}
 use Rattle.floyd_listlaw.specs.Terms.{formula_with}
@@ -261,8 +259,8 @@ module _ (defs : Defs) (specs : List ℕ → Value → Bool) (env : Env) where
   each l.VintSigned = vint_signed
   each l.NullPtr = null_ptr
 
-pub holds : (defs : Defs) (specs : List ℕ → Value → Bool) (scope : Scope) (env : Env) (name : List ℕ) (terms : List Plain) (law : PlainLaw) → DefsKeep defs → Suits scope env → All (IsTerm defs scope) terms → instance name terms ≡ Ok law → AllTrue defs specs env law.premises → Truth defs specs env law.conclusion
-holds defs specs scope env name terms law keeps suits a e =
+pub holds : LawsHold
+holds name terms law e defs specs scope env keeps suits a =
     let p = comes_from name terms law (law_named name) e in
     subst (λ w. AllTrue defs specs env w.premises → Truth defs specs env w.conclusion) p.5
     (each defs specs env p.0 p.3 terms (values defs scope env keeps suits p.3 (row p.0).arguments terms p.1 a p.2 p.4))

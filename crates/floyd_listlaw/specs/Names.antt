@@ -36,6 +36,9 @@ abbrev pub all_laws : List ListLaw
 all_laws =
     l.SublistNone ∷ l.SublistAll ∷ l.SublistSnoc ∷ l.SublistApp ∷ l.SublistLen ∷ l.SublistVints ∷ l.VintsApp ∷ l.LenVints ∷ l.SumNil ∷ l.SumApp ∷ l.SumSnoc ∷ l.LenApp ∷ l.LenRev ∷ l.LenUpd ∷ l.LenNonneg ∷ l.AppNil ∷ l.AppAssoc ∷ l.RevCons ∷ l.RevApp ∷ l.RevRev ∷ l.NthSame ∷ l.NthOther ∷ l.LtOrEq ∷ l.LeTotal ∷ l.VintUnsigned ∷ l.VintSigned ∷ l.NullPtr ∷ []
 
--- the law of that name
+-- the law of that name, among these and among all
+abbrev pub named_among : List ListLaw → List ℕ → Option ListLaw
+named_among laws name = find (λ law. bytes_eq name (word law)) laws
+
 abbrev pub law_named : List ℕ → Option ListLaw
-law_named name = find (λ law. bytes_eq name (word law)) all_laws
+law_named = named_among all_laws

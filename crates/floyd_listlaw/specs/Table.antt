@@ -5,10 +5,11 @@ use Rattle.floyd_tree_sorts.specs.declared.operators.Operator.{Operator}
 use Rattle.floyd_tree_sorts.specs.declared.operators.Operator.TheVariants as o
 use Rattle.floyd_tree_sorts.specs.declared.operators.RowSort.{RowSort}
 use Rattle.floyd_tree_sorts.specs.declared.operators.RowSort.TheVariants.{Z, Val, S, ListZ, ListS}
-use Rattle.floyd_listlaw.specs.declared.list_law.LawHead.TheVariants as h
+use Rattle.floyd_listlaw.specs.declared.heads.LawForm.TheVariants as f
+use Rattle.floyd_listlaw.specs.declared.heads.LawHead.TheVariants as h
 use Rattle.floyd_listlaw.specs.declared.list_law.ListLaw.{ListLaw}
 use Rattle.floyd_listlaw.specs.declared.list_law.ListLaw.TheVariants as l
-use Rattle.floyd_listlaw.specs.Terms.{LawTerm, Argument, Node, NoTerm, Terms, LawFormula, False, Equal, AtMost, IsPtr, Or, Implies}
+use Rattle.floyd_listlaw.specs.Terms.{LawTerm, Argument, Node, NoTerm, Terms, LawFormula, Claim, NoClaim, Claims}
 
 pub record Row : Type 0 where
   pub arguments : List RowSort
@@ -120,41 +121,59 @@ three a b c says = of_sorts (a ∷ b ∷ c ∷ []) (says (Argument 0) (Argument 
 abbrev pub four : RowSort → RowSort → RowSort → RowSort → (LawTerm → LawTerm → LawTerm → LawTerm → Statement) → Row
 four a b c d says = of_sorts (a ∷ b ∷ c ∷ d ∷ []) (says (Argument 0) (Argument 1) (Argument 2) (Argument 3))
 
+abbrev pub never : LawFormula
+never = Claim f.False NoTerm NoClaim
+
+abbrev pub is_ptr : LawTerm → LawFormula
+is_ptr a = Claim f.IsPtr (Terms a NoTerm) NoClaim
+
+abbrev pub equal : LawTerm → LawTerm → LawFormula
+equal a b = Claim f.Equal (Terms a (Terms b NoTerm)) NoClaim
+
+abbrev pub at_most : LawTerm → LawTerm → LawFormula
+at_most a b = Claim f.AtMost (Terms a (Terms b NoTerm)) NoClaim
+
+abbrev pub either : LawFormula → LawFormula → LawFormula
+either a b = Claim f.Or NoTerm (Claims a (Claims b NoClaim))
+
+abbrev pub implies : LawFormula → LawFormula → LawFormula
+implies a b = Claim f.Implies NoTerm (Claims a (Claims b NoClaim))
+
 abbrev pub not_negative : LawTerm → LawFormula
-not_negative a = AtMost (number (pos 0)) a
+not_negative a = at_most (number (pos 0)) a
 
 abbrev pub below : LawTerm → LawTerm → LawFormula
-below a b = AtMost (next a) b
+below a b = at_most (next a) b
 
 -- a <> b
 abbrev pub unequal : LawTerm → LawTerm → LawFormula
-unequal a b = Implies (Equal a b) False
+unequal a b = implies (equal a b) never
 
 abbrev pub row : ListLaw → Row
-row l.SublistNone = two Z ListS (λ i a. always (Equal (sublist i i a) (nil S)))
-row l.SublistAll = one ListS (λ a. always (Equal (sublist (number (pos 0)) (len a) a) a))
-row l.SublistSnoc = two Z ListS (λ i a. where2 (not_negative i) (below i (len a)) (Equal (sublist (number (pos 0)) (next i) a) (append (sublist (number (pos 0)) i a) (single (nth i a)))))
-row l.SublistApp = four Z Z Z ListS (λ i j k a. where2 (AtMost i j) (AtMost j k) (Equal (append (sublist i j a) (sublist j k a)) (sublist i k a)))
-row l.SublistLen = three Z Z ListS (λ i j a. where3 (not_negative i) (AtMost i j) (AtMost j (len a)) (Equal (len (sublist i j a)) (minus j i)))
-row l.SublistVints = three Z Z ListZ (λ i j a. always (Equal (sublist i j (vints a)) (vints (sublist i j a))))
-row l.VintsApp = two ListZ ListZ (λ a b. always (Equal (append (vints a) (vints b)) (vints (append a b))))
-row l.LenVints = one ListZ (λ a. always (Equal (len (vints a)) (len a)))
-row l.SumNil = none (always (Equal (sum (nil Z)) (number (pos 0))))
-row l.SumApp = two ListZ ListZ (λ a b. always (Equal (sum (append a b)) (plus (sum a) (sum b))))
-row l.SumSnoc = two Z ListZ (λ i a. where2 (not_negative i) (below i (len a)) (Equal (sum (sublist (number (pos 0)) (next i) a)) (plus (sum (sublist (number (pos 0)) i a)) (nth i a))))
-row l.LenApp = two ListS ListS (λ a b. always (Equal (len (append a b)) (plus (len a) (len b))))
-row l.LenRev = one ListS (λ a. always (Equal (len (rev a)) (len a)))
-row l.LenUpd = three Z S ListS (λ i x a. always (Equal (len (upd i x a)) (len a)))
+row l.SublistNone = two Z ListS (λ i a. always (equal (sublist i i a) (nil S)))
+row l.SublistAll = one ListS (λ a. always (equal (sublist (number (pos 0)) (len a) a) a))
+row l.SublistSnoc = two Z ListS (λ i a. where2 (not_negative i) (below i (len a)) (equal (sublist (number (pos 0)) (next i) a) (append (sublist (number (pos 0)) i a) (single (nth i a)))))
+row l.SublistApp = four Z Z Z ListS (λ i j k a. where2 (at_most i j) (at_most j k) (equal (append (sublist i j a) (sublist j k a)) (sublist i k a)))
+row l.SublistLen = three Z Z ListS (λ i j a. where3 (not_negative i) (at_most i j) (at_most j (len a)) (equal (len (sublist i j a)) (minus j i)))
+row l.SublistVints = three Z Z ListZ (λ i j a. always (equal (sublist i j (vints a)) (vints (sublist i j a))))
+row l.VintsApp = two ListZ ListZ (λ a b. always (equal (append (vints a) (vints b)) (vints (append a b))))
+row l.LenVints = one ListZ (λ a. always (equal (len (vints a)) (len a)))
+row l.SumNil = none (always (equal (sum (nil Z)) (number (pos 0))))
+row l.SumApp = two ListZ ListZ (λ a b. always (equal (sum (append a b)) (plus (sum a) (sum b))))
+row l.SumSnoc = two Z ListZ (λ i a. where2 (not_negative i) (below i (len a)) (equal (sum (sublist (number (pos 0)) (next i) a)) (plus (sum (sublist (number (pos 0)) i a)) (nth i a))))
+row l.LenApp = two ListS ListS (λ a b. always (equal (len (append a b)) (plus (len a) (len b))))
+row l.LenRev = one ListS (λ a. always (equal (len (rev a)) (len a)))
+row l.LenUpd = three Z S ListS (λ i x a. always (equal (len (upd i x a)) (len a)))
 row l.LenNonneg = one ListS (λ a. always (not_negative (len a)))
-row l.AppNil = one ListS (λ a. always (Equal (append a (nil S)) a))
-row l.AppAssoc = three ListS ListS ListS (λ a b c. always (Equal (append (append a b) c) (append a (append b c))))
-row l.RevCons = two S ListS (λ x a. always (Equal (rev (cons x a)) (append (rev a) (single x))))
-row l.RevApp = two ListS ListS (λ a b. always (Equal (rev (append a b)) (append (rev b) (rev a))))
-row l.RevRev = one ListS (λ a. always (Equal (rev (rev a)) a))
-row l.NthSame = three Z S ListS (λ i x a. where2 (not_negative i) (below i (len a)) (Equal (nth i (upd i x a)) x))
-row l.NthOther = four Z Z S ListS (λ i j x a. where1 (unequal i j) (Equal (nth j (upd i x a)) (nth j a)))
-row l.LtOrEq = two Z Z (λ a b. where1 (AtMost a b) (Or (below a b) (Equal a b)))
-row l.LeTotal = two Z Z (λ a b. always (Or (AtMost a b) (below b a)))
-row l.VintUnsigned = one Z (λ a. always (Equal (vint a) (vint (unsigned32 a))))
-row l.VintSigned = one Z (λ a. always (Equal (vint a) (vint (signed32 a))))
-row l.NullPtr = one Val (λ v. where2 (IsPtr v) (Equal v nullval) False)
+row l.AppNil = one ListS (λ a. always (equal (append a (nil S)) a))
+row l.AppAssoc = three ListS ListS ListS (λ a b c. always (equal (append (append a b) c) (append a (append b c))))
+row l.RevCons = two S ListS (λ x a. always (equal (rev (cons x a)) (append (rev a) (single x))))
+row l.RevApp = two ListS ListS (λ a b. always (equal (rev (append a b)) (append (rev b) (rev a))))
+row l.RevRev = one ListS (λ a. always (equal (rev (rev a)) a))
+row l.NthSame = three Z S ListS (λ i x a. where2 (not_negative i) (below i (len a)) (equal (nth i (upd i x a)) x))
+row l.NthOther = four Z Z S ListS (λ i j x a. where1 (unequal i j) (equal (nth j (upd i x a)) (nth j a)))
+row l.LtOrEq = two Z Z (λ a b. where1 (at_most a b) (either (below a b) (equal a b)))
+row l.LeTotal = two Z Z (λ a b. always (either (at_most a b) (below b a)))
+row l.VintUnsigned = one Z (λ a. always (equal (vint a) (vint (unsigned32 a))))
+row l.VintSigned = one Z (λ a. always (equal (vint a) (vint (signed32 a))))
+row l.NullPtr = one Val (λ v. where2 (is_ptr v) (equal v nullval) never)

@@ -1,14 +1,17 @@
 -- Terms and formulas that a law writes. Its arguments stand in them by their places, from 0.
 use Rattle.std.specs.Prelude.{ℕ, List, get_or, pos}
+use Rattle.floyd_tree_sorts.specs.declared.connectives.FormulaHead.{FormulaHead}
 use Rattle.floyd_tree_sorts.specs.declared.connectives.FormulaHead.TheVariants as f
 use Rattle.floyd_tree_sorts.specs.declared.heads.Head.{Head}
 use Rattle.floyd_tree_sorts.specs.declared.heads.Head.TheVariants as h
 use Rattle.floyd_tree_sorts.specs.declared.sorts.Sort.{Sort, Z}
 use Rattle.floyd_tree_sorts.specs.Table.{written}
-use Rattle.floyd_tree.specs.Formulas.{PlainFormula, Says, NoFormula, MoreFormulas}
+use Rattle.floyd_tree.specs.Formulas.{PlainFormula, PlainFormulas, Says, NoFormula, MoreFormulas}
 use Rattle.floyd_tree.specs.Plain.{Plain, Plains, At, Done, More}
-use Rattle.floyd_listlaw.specs.declared.list_law.LawHead.{LawHead}
-use Rattle.floyd_listlaw.specs.declared.list_law.LawHead.TheVariants.{Literal, Nil, Signed, Unsigned, Operator}
+use Rattle.floyd_listlaw.specs.declared.heads.LawForm.{LawForm}
+use Rattle.floyd_listlaw.specs.declared.heads.LawForm.TheVariants.{False, Equal, AtMost, IsPtr, Or, Implies}
+use Rattle.floyd_listlaw.specs.declared.heads.LawHead.{LawHead}
+use Rattle.floyd_listlaw.specs.declared.heads.LawHead.TheVariants.{Literal, Nil, Signed, Unsigned, Operator}
 
 mutual
   pub data LawTerm : Type 0 where
@@ -19,13 +22,13 @@ mutual
     NoTerm : LawTerms
     Terms : (first : LawTerm) → (rest : LawTerms) → LawTerms
 
-pub data LawFormula : Type 0 where
-  False : LawFormula
-  Equal : (left : LawTerm) → (right : LawTerm) → LawFormula
-  AtMost : (left : LawTerm) → (right : LawTerm) → LawFormula
-  IsPtr : (value : LawTerm) → LawFormula
-  Or : (first : LawFormula) → (second : LawFormula) → LawFormula
-  Implies : (first : LawFormula) → (second : LawFormula) → LawFormula
+mutual
+  pub data LawFormula : Type 0 where
+    Claim : (form : LawForm) → (terms : LawTerms) → (kids : LawFormulas) → LawFormula
+
+  pub data LawFormulas : Type 0 where
+    NoClaim : LawFormulas
+    Claims : (first : LawFormula) → (rest : LawFormulas) → LawFormulas
 
 -- Instances, where `s` stands for S, and these terms for the arguments.
 abbrev pub head_with : Sort → LawHead → Head
@@ -48,10 +51,18 @@ abbrev mutual
   terms_with s terms NoTerm = Done
   terms_with s terms (Terms first rest) = More (term_with s terms first) (terms_with s terms rest)
 
-abbrev pub formula_with : Sort → List Plain → LawFormula → PlainFormula
-formula_with s terms False = Says f.False Done NoFormula
-formula_with s terms (Equal a b) = Says f.Equal (More (term_with s terms a) (More (term_with s terms b) Done)) NoFormula
-formula_with s terms (AtMost a b) = Says f.AtMost (More (term_with s terms a) (More (term_with s terms b) Done)) NoFormula
-formula_with s terms (IsPtr a) = Says f.IsPtr (More (term_with s terms a) Done) NoFormula
-formula_with s terms (Or a b) = Says f.Or Done (MoreFormulas (formula_with s terms a) (MoreFormulas (formula_with s terms b) NoFormula))
-formula_with s terms (Implies a b) = Says f.Implies Done (MoreFormulas (formula_with s terms a) (MoreFormulas (formula_with s terms b) NoFormula))
+abbrev pub form_head : LawForm → FormulaHead
+form_head False = f.False
+form_head Equal = f.Equal
+form_head AtMost = f.AtMost
+form_head IsPtr = f.IsPtr
+form_head Or = f.Or
+form_head Implies = f.Implies
+
+abbrev mutual
+  pub formula_with : Sort → List Plain → LawFormula → PlainFormula
+  formula_with s terms (Claim form own kids) = Says (form_head form) (terms_with s terms own) (formulas_with s terms kids)
+
+  pub formulas_with : Sort → List Plain → LawFormulas → PlainFormulas
+  formulas_with s terms NoClaim = NoFormula
+  formulas_with s terms (Claims first rest) = MoreFormulas (formula_with s terms first) (formulas_with s terms rest)
