@@ -2,18 +2,14 @@
 //! answer otherwise are printed, and how many agree.
 #![tactic(auto)]
 
-mod heads;
-mod large;
 mod rows;
-mod terms;
-mod trees;
 
 use rows::agrees;
 use std::alloc::Global;
 use std::marker::Brand;
 use std::sync::ledger::Blank;
 use std::{fs, io};
-use trees::{Stop, trees_of};
+use tests_terms::{Stop, trees_of};
 
 /// Whether a line's row answers as it says. A line without a row says nothing.
 fn judge(alloc: Global, line: &str) -> Result<Option<bool>, Stop> {

@@ -1,15 +1,12 @@
 ghost use Rattle.std.specs.Prelude.{◌≡◌, ◌<◌};
 
-use crate::heads::sort_of;
-use crate::large::replaces_leftmost;
-use crate::terms::{DEPTH, formula_of, term_of};
-use crate::trees::{Stop, Tree, part};
 use floyd_text::Steps;
 use floyd_tree::{
     Term, equal, formula_mentions, formula_size, height, mentions, rewrite_at, size, sort, subst,
 };
 use std::alloc::Global;
 use std::sync::ledger::{Blank, Ledger};
+use tests_terms::{DEPTH, Stop, Tree, formula_of, part, replaces_leftmost, says, sort_of, term_of};
 
 /// Whether a refusal is the answer that the row has.
 fn is_answer(stop: Stop, answer: &Tree) -> Result<bool, Stop> {
@@ -17,11 +14,6 @@ fn is_answer(stop: Stop, answer: &Tree) -> Result<bool, Stop> {
         Stop::Memory | Stop::Unreadable => Err(stop),
         Stop::IllSorted | Stop::TooLarge | Stop::Absent => { Ok(answer.word() == stop.word()) }
     }
-}
-
-/// Whether the row has that answer: `yes` or `no`.
-fn says(answer: &Tree, yes: bool) -> bool {
-    answer.word() == if yes { "yes" } else { "no" }
 }
 
 /// Whether the term, or the refusal, is the answer that the row has.

@@ -1,0 +1,4 @@
+-- Definitions that contracts cite.
+pub mod AroundClauses
+pub mod Removal
+pub mod RemovalClauses

@@ -1,6 +1,0 @@
-use Rattle.std.proofs.Common.{◌≡◌}
-use Rattle.tests_trees.specs.Full.{full}
-use Rattle.tests_trees.proofs.large.full_tree.Given as goal
-
-abbrev pub invariant-levels : goal.invariant-levels
-invariant-levels g l = l.term ≡ full l._level l.leaf
