@@ -1,0 +1,10 @@
+-- Lemmas on terms in place of variables.
+pub mod Answering
+pub mod Heights
+pub mod Marking
+pub mod Naming
+pub mod Replacing
+pub mod ReplacingFormulas
+pub mod StayingFormulas
+pub mod StillBelow
+pub mod Stopping
