@@ -1,0 +1,6 @@
+use Rattle.std.proofs.Common.{◌≡◌, drop}
+use Rattle.floyd_fieldpath.specs.Projections.{component}
+use Rattle.floyd_fieldpath.proofs.projections.component.Given as goal
+
+abbrev pub invariant-fields : goal.invariant-fields
+invariant-fields g l = component l.structs l.after (drop l.at l.fields) l.name l.value ≡ component l.structs l.after l.fields l.name l.v
