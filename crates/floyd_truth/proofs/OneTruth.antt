@@ -28,7 +28,7 @@ abbrev pub put : (List ℕ → Datum) → List ℕ → Datum → List ℕ → Da
 put f x d y = if bytes_eq y x then d else f y
 
 -- both give the same data to what is the same variable
-abbrev Agree : Binders → (List ℕ → Datum) → (List ℕ → Datum) → Type 0
+abbrev pub Agree : Binders → (List ℕ → Datum) → (List ℕ → Datum) → Type 0
 Agree around f g = (x y : List ℕ) → same_variable around x y ≡ true → f x ≡ g y
 
 both : (a b rest : Bool) (p q d : Datum) → (if a || b then a && b else rest) ≡ true → (rest ≡ true → p ≡ q) → (if a then d else p) ≡ (if b then d else q)
@@ -37,7 +37,7 @@ both true false rest p q d h k = absurd cc
 both false true rest p q d h k = absurd cc
 both false false rest p q d h k = k h
 
-agree_put : (around : Binders) (f g : List ℕ → Datum) → Agree around f g → (x y : List ℕ) (d : Datum) → Agree ((x, y) ∷ around) (put f x d) (put g y d)
+pub agree_put : (around : Binders) (f g : List ℕ → Datum) → Agree around f g → (x y : List ℕ) (d : Datum) → Agree ((x, y) ∷ around) (put f x d) (put g y d)
 agree_put around f g k x y d u v h = both (bytes_eq u x) (bytes_eq v y) (same_variable around u v) (f u) (g v) d h (k u v)
 
 -- heads that are the same but for bound names
@@ -77,7 +77,7 @@ or_map p q (inr b) = inr (q b)
 
 module _ (defs : Defs) (specs : List ℕ → Value → Bool) (env : Env) where
   mutual
-    means_same : (around : Binders) (f g : List ℕ → Datum) → Agree around f g → (t u : Plain) → SameTerm around t u → (d : Datum) → Means defs (giving env f) t d → Means defs (giving env g) u d
+    pub means_same : (around : Binders) (f g : List ℕ → Datum) → Agree around f g → (t u : Plain) → SameTerm around t u → (d : Datum) → Means defs (giving env f) t d → Means defs (giving env g) u d
     means_same around f g k (At (Fun name sorts s) ts) (At b us) h d m =
         let p = calls m in
         subst (λ (c : Head). Means defs (giving env g) (At c us) d) h.0
@@ -87,7 +87,7 @@ module _ (defs : Defs) (specs : List ℕ → Value → Bool) (env : Env) where
         subst (Means defs (giving env g) (At b us)) (sym (p.is ∙ same_applied defs.structs env around f g k a b h.0 p.sort p.data'))
         (built_in (sym (same_fun around a b h.0)) (sym (same_sort around (At a ts) (At b us) h) ∙ p.sorted) (all_same around f g k ts us h.1 p.data' p.mean))
 
-    all_same : (around : Binders) (f g : List ℕ → Datum) → Agree around f g → (ts us : Plains) → SameTerms around ts us → (ds : List Datum) → AllMean defs (giving env f) ts ds → AllMean defs (giving env g) us ds
+    pub all_same : (around : Binders) (f g : List ℕ → Datum) → Agree around f g → (ts us : Plains) → SameTerms around ts us → (ds : List Datum) → AllMean defs (giving env f) ts ds → AllMean defs (giving env g) us ds
     all_same around f g k Done Done h ds m = subst (AllMean defs (giving env g) Done) (sym (no_data m)) none
     all_same around f g k Done (More u us) h ds m = absurd h
     all_same around f g k (More t ts) Done h ds m = absurd h
@@ -97,7 +97,7 @@ module _ (defs : Defs) (specs : List ℕ → Value → Bool) (env : Env) where
         (more (means_same around f g k t u h.0 p.datum p.first) (all_same around f g k ts us h.1 p.data' p.rest))
 
   mutual
-    means_back : (around : Binders) (f g : List ℕ → Datum) → Agree around f g → (t u : Plain) → SameTerm around t u → (d : Datum) → Means defs (giving env g) u d → Means defs (giving env f) t d
+    pub means_back : (around : Binders) (f g : List ℕ → Datum) → Agree around f g → (t u : Plain) → SameTerm around t u → (d : Datum) → Means defs (giving env g) u d → Means defs (giving env f) t d
     means_back around f g k (At (Fun name sorts s) ts) (At b us) h d m =
         let p = calls (subst (λ (c : Head). Means defs (giving env g) (At c us) d) (sym h.0) m) in
         call {bindings = p.opened.bindings} {term = p.opened.term} (all_back around f g k ts us h.1 p.data' p.mean) p.is p.term
@@ -106,7 +106,7 @@ module _ (defs : Defs) (specs : List ℕ → Value → Bool) (env : Env) where
         subst (Means defs (giving env f) (At a ts)) (same_applied defs.structs env around f g k a b h.0 p.sort p.data' ∙ sym p.is)
         (built_in {head = a} refl (same_sort around (At a ts) (At b us) h ∙ p.sorted) (all_back around f g k ts us h.1 p.data' p.mean))
 
-    all_back : (around : Binders) (f g : List ℕ → Datum) → Agree around f g → (ts us : Plains) → SameTerms around ts us → (ds : List Datum) → AllMean defs (giving env g) us ds → AllMean defs (giving env f) ts ds
+    pub all_back : (around : Binders) (f g : List ℕ → Datum) → Agree around f g → (ts us : Plains) → SameTerms around ts us → (ds : List Datum) → AllMean defs (giving env g) us ds → AllMean defs (giving env f) ts ds
     all_back around f g k Done Done h ds m = subst (AllMean defs (giving env f) Done) (sym (no_data m)) none
     all_back around f g k Done (More u us) h ds m = absurd h
     all_back around f g k (More t ts) Done h ds m = absurd h
@@ -127,7 +127,7 @@ module _ (defs : Defs) (specs : List ℕ → Value → Bool) (env : Env) where
   says_of f g head ts us k p = absurd p
 
   mutual
-    same_truth : (around : Binders) (f g : List ℕ → Datum) → Agree around f g → (p q : PlainFormula) → SameUnder around p q → Truth defs specs (giving env f) p ↔ Truth defs specs (giving env g) q
+    pub same_truth : (around : Binders) (f g : List ℕ → Datum) → Agree around f g → (p q : PlainFormula) → SameUnder around p q → Truth defs specs (giving env f) p ↔ Truth defs specs (giving env g) q
     same_truth around f g k (Says (Forall x s) ts ps) (Says (Forall y o) us qs) h = (
       λ p d e. (first_same ((x, y) ∷ around) (put f x d) (put g y d) (agree_put around f g k x y d) ps qs h.2).0 (p d (subst (λ r. HasSort r d) (sym h.0) e)),
       λ p d e. (first_same ((x, y) ∷ around) (put f x d) (put g y d) (agree_put around f g k x y d) ps qs h.2).1 (p d (subst (λ r. HasSort r d) h.0 e)),
@@ -173,7 +173,7 @@ module _ (defs : Defs) (specs : List ℕ → Value → Bool) (env : Env) where
     second_same around f g k (MoreFormulas p ps) NoFormula h = absurd h
     second_same around f g k (MoreFormulas p ps) (MoreFormulas q qs) h = first_same around f g k ps qs h.1
 
-same_free : (f : List ℕ → Datum) → Agree [] f f
+pub same_free : (f : List ℕ → Datum) → Agree [] f f
 same_free f x y h = ap f ((bytes_eq-Decides x y).0 h)
 
 pub one_truth : (defs : Defs) (specs : List ℕ → Value → Bool) (env : Env) (p q : PlainFormula) → SameFormula p q → Truth defs specs env p ↔ Truth defs specs env q
