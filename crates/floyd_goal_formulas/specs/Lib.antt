@@ -1,0 +1,7 @@
+-- Definitions that contracts cite.
+pub mod Drops
+pub mod Fits
+pub mod Known
+pub mod KnownClauses
+pub mod Laws
+pub mod Said

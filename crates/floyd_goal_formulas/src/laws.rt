@@ -1,0 +1,6 @@
+ghost use Rattle.floyd_goal_formulas.specs.Laws as specs;
+
+/// A well-formed formula that needs no proof is true where the hypotheses are.
+pub fn drops_hold()
+    ensures { specs.DropsHold }
+{}
