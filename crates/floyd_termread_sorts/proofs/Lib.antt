@@ -1,0 +1,3 @@
+pub mod SortExact
+pub mod SortShrinks
+pub mod RoomLemmas
