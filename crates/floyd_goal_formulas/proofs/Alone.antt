@@ -1,5 +1,5 @@
 -- What is true by itself, or given by a hypothesis, is so.
-use Rattle.std.proofs.Common.{◌≡◌, ◌⊎◌, ℕ, ◌+◌, ◌-◌, ◌^◌, Bool, true, false, ◌&&◌, ◌||◌, List, [], ◌∷◌, Option, Some, None, ℤ, pos, negsuc, refl, sym, ap, subst, ◌∙◌, lit<, ⊎_elim, inl, inr, arith}
+use Rattle.std.proofs.Common.{◌≡◌, ◌⊎◌, ℕ, ◌-◌, ◌^◌, Bool, true, false, ◌&&◌, ◌||◌, List, Option, Some, None, ℤ, pos, refl, sym, ap, subst, ◌∙◌, lit<, ⊎_elim, inl, inr, arith}
 use Rattle.std.specs.Prelude.{int_le, nat_lt, length}
 use Rattle.std.proofs.lemmas.Bool.{lt-ltb, le-leb}
 use Rattle.floyd_int.specs.declared.kinds.IntKind.{IntKind}
@@ -10,25 +10,23 @@ use Rattle.floyd_int.specs.Kind as k
 use Rattle.floyd_int.specs.Kind.{modulo}
 use Rattle.floyd_int.proofs.Modulo.{modulo-below}
 use Rattle.floyd_ctypes.specs.Has.{has_kind, has_pointer}
-use Rattle.floyd_tree_sorts.specs.declared.heads.Head.{Head}
 use Rattle.floyd_tree_sorts.specs.declared.heads.Head.TheVariants as h
 use Rattle.floyd_tree_sorts.specs.declared.heads.Width.TheVariants.{Bits8, Bits16}
-use Rattle.floyd_tree_sorts.specs.declared.operators.Operator.{Operator}
 use Rattle.floyd_tree_sorts.specs.declared.operators.Operator.TheVariants as o
-use Rattle.floyd_tree_sorts.specs.declared.shape.Shape.{Shape, Void, Int, Pointer', Array', Struct, Function'}
+use Rattle.floyd_tree_sorts.specs.declared.shape.Shape.{Shape, Int, Pointer'}
 use Rattle.floyd_tree_sorts.specs.Prints.{width_number}
 use Rattle.floyd_tree_sorts.proofs.SortLemmas.{both_true}
-use Rattle.floyd_tree.specs.Plain.{Plain, Plains, At, Done, More, head_of, kids_of, listed}
+use Rattle.floyd_tree.specs.Plain.{Plain, At, Done, More, head_of, kids_of}
 use Rattle.floyd_tree_values.specs.BuiltIns.{Env, at_place}
 use Rattle.floyd_tree_values.specs.Data.{Datum, Number, Val, number_in, items_in}
 use Rattle.floyd_tree_values.specs.Means.{Defs, Means}
 use Rattle.floyd_tree_values.specs.Numbers.{one_if, signed, unsigned, signed_kind}
 use Rattle.floyd_tree_values.specs.Values.{vint}
-use Rattle.floyd_tree_values.proofs.OneValue.{applies, split, no_data, one_value}
+use Rattle.floyd_tree_values.proofs.OneValue.{applies, split, one_value}
 use Rattle.floyd_truth.specs.Types.{has_shape}
 use Rattle.floyd_goal_formulas.specs.Drops.{Alone, Bounds, GivesSaid, are_ordered, greatest, is_bounded, is_made, is_narrow, is_null, is_of_kind, is_of_type, is_place, is_pointer_type, is_vint, is_vlong, least, narrow_in}
 use Rattle.floyd_goal_formulas.specs.Known.{literal_of}
-use Rattle.floyd_goal_formulas.specs.Said.{Saying, Equation, Inequality, Pointer, NotUndefined, OfType, Absurd, Implication, Either, Both, ForAll, ThereIs, Else, one_of}
+use Rattle.floyd_goal_formulas.specs.Said.{Saying, Equation, Inequality, Pointer, NotUndefined, OfType, one_of}
 use Rattle.floyd_goal_formulas.proofs.Literals.{literal_means, number_is}
 use Rattle.floyd_goal_formulas.proofs.Numbers.{within, below, ordered, signed_bits, unsigned_bits8, unsigned_bits16}
 use Rattle.floyd_goal_formulas.proofs.Sayings.{SaidTrue, Values}

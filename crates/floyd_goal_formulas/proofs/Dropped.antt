@@ -1,5 +1,5 @@
 -- A formula that needs no proof is true.
-use Rattle.std.proofs.Common.{◌≡◌, ◌⊎◌, ℕ, Bool, true, List, [], ◌∷◌, Some, ⊎_elim}
+use Rattle.std.proofs.Common.{ℕ, Bool, true, List, [], ◌∷◌, ⊎_elim}
 use Rattle.floyd_int.specs.declared.kinds.Value.{Value}
 use Rattle.floyd_tree.specs.Formulas.{PlainFormula}
 use Rattle.floyd_tree_values.specs.BuiltIns.{Env}

@@ -6,3 +6,5 @@ pub mod Literals
 pub mod Sayings
 pub mod Alone
 pub mod Dropped
+pub mod KeepingLemmas
+pub mod Keepings

@@ -1,6 +1,6 @@
 -- What is known of a formula by its literals is so.
 use Rattle.std.proofs.Common.{◌≡◌, ◌⊎◌, ℕ, Bool, true, false, not, cond, List, [], ◌∷◌, Option, Some, None, ℤ, refl, sym, ap, subst, ◌∙◌, inl, inr, ⊎_elim, true≢false}
-use Rattle.std.specs.Prelude.{int_le, option_map, IsTrue}
+use Rattle.std.specs.Prelude.{int_le, option_map}
 use Rattle.std.specs.Ordering.{int_eq}
 use Rattle.std.proofs.lemmas.Bool.Decides.{Decides-int_eq}
 use Rattle.floyd_int.specs.declared.kinds.Value.{Value}
@@ -10,8 +10,8 @@ use Rattle.floyd_tree_sorts.specs.declared.heads.Head.{Head}
 use Rattle.floyd_tree_sorts.specs.declared.heads.Head.TheVariants.{Literal}
 use Rattle.floyd_tree_sorts.specs.declared.sorts.Sort.{Sort}
 use Rattle.floyd_tree_sorts.proofs.SortLemmas.{both_true}
-use Rattle.floyd_tree.specs.Formulas.{PlainFormula, PlainFormulas, Says, NoFormula, MoreFormulas, well_sorted, all_well_sorted, takes_all, listed_formulas, form_of}
-use Rattle.floyd_tree.specs.Plain.{Plain, Plains, At, Done, More, head_of}
+use Rattle.floyd_tree.specs.Formulas.{PlainFormula, PlainFormulas, Says, NoFormula, MoreFormulas, well_sorted, all_well_sorted, takes_all, form_of}
+use Rattle.floyd_tree.specs.Plain.{Plain, Plains, At, Done, More}
 use Rattle.floyd_tree.specs.WellSorted.{sort_of, sorts_of}
 use Rattle.floyd_tree_values.specs.BuiltIns.{Env}
 use Rattle.floyd_tree_values.specs.Data.{Datum, Number}
@@ -20,7 +20,7 @@ use Rattle.floyd_tree_values.specs.Rules.{Scope, Suits, DefsKeep, CallsOf, AllAl
 use Rattle.floyd_tree_values.proofs.OneValue.{applies, split}
 use Rattle.floyd_truth.specs.Truth.{Truth}
 use Rattle.floyd_goal_formulas.specs.Known.{literal_of, number_in, compared, known, and_known, or_known, not_known, is_absurd}
-use Rattle.floyd_goal_formulas.specs.Fits.{Fits, IsAllowed, AreAllowed, scope_below}
+use Rattle.floyd_goal_formulas.specs.Fits.{Fits, AreAllowed, scope_below}
 use Rattle.floyd_goal_formulas.proofs.Values.{first_some, some_value, sorted}
 
 pub literal_head : (head : Head) (z : ℤ) → number_in head ≡ Some z → head ≡ Literal z

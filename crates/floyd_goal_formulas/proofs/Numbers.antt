@@ -1,10 +1,8 @@
 -- The bounds of numbers that are taken modulo a width.
 use Rattle.std.proofs.Common.{◌≡◌, ℕ, ◌+◌, ◌-◌, ◌%◌, ◌^◌, ◌<◌, ◌≤◌, Bool, true, false, ◌&&◌, ◌||◌, ℤ, pos, negsuc, refl, sym, ap, ◌∙◌, arith, lit<}
-use Rattle.std.specs.Prelude.{int_le, nat_le, nat_lt, IsTrue}
+use Rattle.std.specs.Prelude.{int_le, nat_le, nat_lt}
 use Rattle.std.proofs.lemmas.Int.{ints}
 use Rattle.std.proofs.lemmas.Bool.{le-leb, lt-ltb}
-use Rattle.std.proofs.Math.Nat.{mod-lt}
-use Rattle.floyd_int.specs.declared.kinds.IntKind.TheVariants.{I8, U8, I16, U16, I32, U32, I64, U64}
 use Rattle.floyd_int.specs.Kind as k
 use Rattle.floyd_int.specs.Kind.{modulo, repr_of, value_of}
 use Rattle.floyd_int.proofs.KindLaws.{InRange-value, repr-below}

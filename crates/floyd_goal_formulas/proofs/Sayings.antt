@@ -1,18 +1,17 @@
 -- What a formula says at its head, as a fact about values.
-use Rattle.std.proofs.Common.{◌≡◌, ◌⊎◌, ℕ, ◌+◌, Bool, true, false, ◌&&◌, List, [], ◌∷◌, Option, Some, None, ℤ, refl, sym, ap, subst, ◌∙◌, IsTrue}
+use Rattle.std.proofs.Common.{◌≡◌, ◌⊎◌, ℕ, ◌+◌, Bool, true, ◌&&◌, List, [], ◌∷◌, Option, Some, None, ℤ, refl, sym, ap, subst, ◌∙◌}
 use Rattle.std.specs.Prelude.{int_le, nat_eq, length}
 use Rattle.floyd_int.specs.declared.kinds.Value.{Value}
 use Rattle.floyd_int.specs.declared.kinds.Value.TheVariants.{Vundef, Vptr}
-use Rattle.floyd_tree_sorts.specs.declared.connectives.FormulaHead.{FormulaHead}
 use Rattle.floyd_tree_sorts.specs.declared.connectives.FormulaHead.TheVariants as f
 use Rattle.floyd_tree_sorts.specs.declared.shape.Shape.{Shape}
-use Rattle.floyd_tree_sorts.specs.declared.sorts.Sort.{Sort, Z, Val as ValSort}
-use Rattle.floyd_tree_sorts.specs.Rows.{takes, takes_row, numbers_then_val, is_scalar}
-use Rattle.floyd_tree_sorts.specs.Sorts.{is_z, is_val}
+use Rattle.floyd_tree_sorts.specs.declared.sorts.Sort.{Sort, Z}
+use Rattle.floyd_tree_sorts.specs.Rows.{takes, numbers_then_val, is_scalar}
+use Rattle.floyd_tree_sorts.specs.Sorts.{is_z}
 use Rattle.floyd_tree_sorts.specs.Table.{arrays}
 use Rattle.floyd_tree_sorts.proofs.SortLemmas.{both_true}
 use Rattle.floyd_tree.specs.Formulas.{PlainFormula, PlainFormulas, Says, NoFormula, MoreFormulas, listed_formulas}
-use Rattle.floyd_tree.specs.Plain.{Plain, Plains, At, Done, More, listed}
+use Rattle.floyd_tree.specs.Plain.{Plain, Plains, Done, More, listed}
 use Rattle.floyd_tree.specs.WellSorted.{sort_of, sorts_of}
 use Rattle.floyd_tree_values.specs.BuiltIns.{Env}
 use Rattle.floyd_tree_values.specs.Data.{Datum, Number, Val}
@@ -21,9 +20,9 @@ use Rattle.floyd_tree_values.specs.Rules.{Scope, Suits, DefsKeep, CallsOf, AllAl
 use Rattle.floyd_tree_values.proofs.OneValue.{split, no_data}
 use Rattle.floyd_truth.specs.Truth.{Truth, numbers_then}
 use Rattle.floyd_truth.specs.Types.{has_shape}
-use Rattle.floyd_goal_formulas.specs.Said.{Saying, Equation, Inequality, Pointer, NotUndefined, OfType, Absurd, Implication, Either, Both, ForAll, ThereIs, Else, said, of_pair, of_one, pair_of, one_of, last_of}
+use Rattle.floyd_goal_formulas.specs.Said.{Saying, Equation, Inequality, Pointer, NotUndefined, OfType, Implication, Either, Both, ForAll, ThereIs, Else, said, of_pair, of_one, pair_of, one_of, last_of}
 use Rattle.floyd_goal_formulas.specs.Fits.{Fits}
-use Rattle.floyd_goal_formulas.proofs.Values.{first_some, some_value, a_number, sorted, Sorted, is_z_is, is_val_is}
+use Rattle.floyd_goal_formulas.proofs.Values.{first_some, some_value, a_number, sorted, is_z_is}
 
 module _ (defs : Defs) (specs : List ℕ → Value → Bool) (env : Env) where
   -- of another kind of formula it is P

@@ -1,22 +1,21 @@
 -- The values of the terms of a well-formed formula.
-use Rattle.std.proofs.Common.{◌≡◌, ℕ, Bool, true, false, ◌&&◌, List, [], ◌∷◌, Option, Some, None, ℤ, refl, sym, ap, subst, ◌∙◌}
+use Rattle.std.proofs.Common.{◌≡◌, ℕ, true, List, ◌∷◌, Option, Some, None, ℤ, refl}
 use Rattle.floyd_int.specs.declared.kinds.Value.{Value}
 use Rattle.floyd_tree_sorts.specs.declared.connectives.FormulaHead.{FormulaHead}
 use Rattle.floyd_tree_sorts.specs.declared.sorts.Sort.{Sort, Z, Val as ValSort}
 use Rattle.floyd_tree_sorts.specs.Sorts.{is_z, is_val}
 use Rattle.floyd_tree_sorts.specs.Rows.{takes}
-use Rattle.floyd_tree.specs.Formulas.{PlainFormula, PlainFormulas, Says, takes_all, well_sorted, all_well_sorted, listed_formulas}
-use Rattle.floyd_tree.specs.Plain.{Plain, Plains, At, Done, More}
+use Rattle.floyd_tree.specs.Formulas.{PlainFormulas, Says, takes_all, well_sorted, all_well_sorted, listed_formulas}
+use Rattle.floyd_tree.specs.Plain.{Plain, Plains, More}
 use Rattle.floyd_tree.specs.WellSorted.{sort_of, sorts_of, with_first}
 use Rattle.floyd_tree_sorts.proofs.SortLemmas.{both_true}
 use Rattle.floyd_tree_values.specs.BuiltIns.{Env}
 use Rattle.floyd_tree_values.specs.Data.{Datum, Number, Val, Seq, Tree, Pair, HasSort}
-use Rattle.floyd_tree_values.specs.Means.{Defs, Means, AllMean}
-use Rattle.floyd_tree_values.specs.Rules.{Scope, Suits, CallsOf, EachAllowed, AllAllowed, DefsKeep}
+use Rattle.floyd_tree_values.specs.Means.{Defs, Means}
+use Rattle.floyd_tree_values.specs.Rules.{Scope, Suits, CallsOf, EachAllowed, DefsKeep}
 use Rattle.floyd_tree_values.proofs.AllFuns.{a_value}
 use Rattle.floyd_tree_values.proofs.TermValues.{Valued}
 use Rattle.std.specs.Prelude.{length}
-use Rattle.floyd_goal_formulas.specs.Fits.{Fits, IsAllowed}
 
 pub first_some : (o : Option Sort) (p : Option (List Sort)) (ss : List Sort) → with_first o p ≡ Some ss → (a : Sort) × (rest : List Sort) × (o ≡ Some a) × (p ≡ Some rest) × (ss ≡ a ∷ rest)
 first_some (Some a) (Some rest) ss e = (a, rest, refl, refl, cc)

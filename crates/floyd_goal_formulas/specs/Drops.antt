@@ -5,8 +5,7 @@ use Rattle.floyd_int.specs.declared.kinds.IntKind.TheVariants.{I8, U8, I16, U16,
 use Rattle.floyd_int.specs.Kind as k
 use Rattle.floyd_tree_sorts.specs.declared.heads.Head.{Head}
 use Rattle.floyd_tree_sorts.specs.declared.heads.Head.TheVariants.{Gv, Lv, Signed, Unsigned, Operator}
-use Rattle.floyd_tree_sorts.specs.declared.heads.Width.{Width}
-use Rattle.floyd_tree_sorts.specs.declared.heads.Width.TheVariants.{Bits8, Bits16, Bits32, Bits64}
+use Rattle.floyd_tree_sorts.specs.declared.heads.Width.TheVariants.{Bits8, Bits16}
 use Rattle.floyd_tree_sorts.specs.declared.operators.Operator as o
 use Rattle.floyd_tree_sorts.specs.declared.operators.Operator.TheVariants.{Vint, Vlong, Nullval, Eqz, Ltz, Lez, Eqv, Len}
 use Rattle.floyd_tree_sorts.specs.declared.shape.Shape.{Shape, Int, Pointer'}

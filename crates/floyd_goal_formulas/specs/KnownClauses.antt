@@ -1,5 +1,5 @@
 -- What is known of a formula by its head and what stands below it.
-use Rattle.std.specs.Prelude.{Bool, List, Option, Some, None, ℤ, int_le}
+use Rattle.std.specs.Prelude.{Bool, Option, Some, None, ℤ, int_le}
 use Rattle.std.specs.Ordering.{int_eq}
 use Rattle.floyd_tree_sorts.specs.declared.connectives.FormulaHead.{FormulaHead}
 use Rattle.floyd_tree_sorts.specs.declared.connectives.FormulaHead.TheVariants as f

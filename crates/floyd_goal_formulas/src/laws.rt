@@ -4,3 +4,8 @@ ghost use Rattle.floyd_goal_formulas.specs.Laws as specs;
 pub fn drops_hold()
     ensures { specs.DropsHold }
 {}
+
+/// Well-formed formulas are true where the hypotheses and those that need a proof are.
+pub fn kept_hold()
+    ensures { specs.KeptHold }
+{}

@@ -1,4 +1,4 @@
-use Rattle.std.proofs.Common.{◌≡◌, inl, ⊎_elim, sym, subst, ◌∙◌, true≢false}
+use Rattle.std.proofs.Common.{inl, ⊎_elim, sym, subst, ◌∙◌, true≢false}
 use Rattle.floyd_goal_formulas.specs.Drops.{GivesSaid}
 use Rattle.floyd_goal_formulas.specs.Said.{said, seen}
 use Rattle.floyd_goal_formulas.proofs.dropping.gives.Goals as goal

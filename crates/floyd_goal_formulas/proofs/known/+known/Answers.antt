@@ -1,5 +1,5 @@
-use Rattle.std.proofs.Common.{◌≡◌, ◌<◌, [], ◌∷◌, sym, ◌∙◌, ap, arith}
-use Rattle.floyd_tree.specs.Formulas.{form_of, formulas_of, formula_height}
+use Rattle.std.proofs.Common.{◌≡◌, [], ◌∷◌, sym, ◌∙◌, ap, arith}
+use Rattle.floyd_tree.specs.Formulas.{form_of, formulas_of}
 use Rattle.floyd_goal_formulas.specs.Known.{known}
 use Rattle.floyd_goal_formulas.specs.KnownClauses.{known_of_both}
 use Rattle.floyd_goal_formulas.proofs.KnownLemmas.{of_two, two_of, kids_lower}
