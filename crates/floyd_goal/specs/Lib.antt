@@ -1,0 +1,6 @@
+-- Definitions that contracts cite.
+pub mod Answers
+pub mod Goals
+pub mod Sides
+pub mod StackClauses
+pub mod Stacks
