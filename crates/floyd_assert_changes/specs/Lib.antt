@@ -1,4 +1,6 @@
 -- Definitions that contracts cite.
+pub mod BodyClauses
+pub mod Changed
 pub mod ChangesClauses
 pub mod FittingClauses
 pub mod NamesClauses

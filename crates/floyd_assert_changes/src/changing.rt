@@ -1,10 +1,11 @@
-ghost use Rattle.std.specs.Prelude.{◌≡◌, bytes_eq, Some};
+ghost use Rattle.std.specs.Prelude.{◌≡◌, IfOk, bytes_eq, Some};
 ghost use Rattle.std.specs.Map.{lookup};
 ghost use Rattle.floyd_assert_changes.specs.ChangesClauses.{become_of, bits_of, changes, changes_of, becomes_by};
 ghost use Rattle.floyd_truth.specs.Capture.{brings, in_new_terms};
 
 use floyd_text::Name;
 use floyd_tree::{Term, mentions};
+use std::alloc::AllocError;
 
 /// What becomes of a variable.
 pub enum Becomes {
@@ -23,10 +24,33 @@ impl Drop for Becomes {
     }
 }
 
+impl Becomes {
+    /// The same, whose term is not copied.
+    fn share(&self) -> Result<Becomes, AllocError>
+        ensures { IfOk result (λ b. b ≡ self.now) }
+    {
+        match self {
+            Becomes::Put(term) => Ok(Becomes::Put(term.share()?)),
+            Becomes::Called(name) => Ok(Becomes::Called(name.share()?)),
+        }
+    }
+}
+
 /// A variable, and what becomes of it.
 pub struct Change {
     pub name: Name,
     pub becomes: Becomes,
+}
+
+impl Change {
+    /// The same, whose term is not copied.
+    pub fn share(&self) -> Result<Change, AllocError>
+        ensures { IfOk result (λ c. c ≡ self.now) }
+    {
+        let name = self.name.share()?;
+        let becomes = self.becomes.share()?;
+        Ok(Change { name, becomes })
+    }
 }
 
 impl Drop for Change {
@@ -106,6 +130,17 @@ pub fn brings(changing: &Changing, x: &Name, variable: &Name) -> bool
     ensures { result ≡ brings x.now (lookup (bytes_eq variable.now) (changes changing.now)) }
 {
     match found(changing, variable) {
+        Fate::Put(term) => mentions(term, x),
+        Fate::Called(_) => false,
+        Fate::Stays => false,
+    }
+}
+
+/// The same of changes in a list.
+pub fn brings_in(all: &[Change], x: &Name, variable: &Name) -> bool
+    ensures { result ≡ brings x.now (lookup (bytes_eq variable.now) (changes_of all.now)) }
+{
+    match found_in(all, variable) {
         Fate::Put(term) => mentions(term, x),
         Fate::Called(_) => false,
         Fate::Stays => false,

@@ -1,13 +1,18 @@
-//! Terms in place of variables, of several at once, in terms and formulas. Bound names are renamed only where they would
-//! capture.
+//! Terms in place of variables, of several at once, in terms, formulas, parts and assertions. Bound names are renamed only
+//! where they would capture.
 #![tactic(auto)]
 
+mod assertions;
+mod body;
 mod changing;
 mod fresh;
 mod names;
+mod parts;
 mod prepare;
 mod replace;
 mod replace_formula;
 mod substitution;
 
-pub use substitution::{subst_formula, subst_formulas, subst_terms};
+pub use substitution::{
+    change_assertion, subst_assertion, subst_formula, subst_formulas, subst_parts, subst_terms,
+};

@@ -1,4 +1,5 @@
-ghost use Rattle.std.specs.Prelude.{◌≡◌, ◌^◌, ◌∷◌, IfOk};
+ghost use Rattle.std.specs.Prelude.{◌≡◌, ◌^◌, ◌++◌, ◌∷◌, IfOk, OnOk, length};
+ghost use Rattle.floyd_assert_changes.specs.Changed.{below_existentials};
 ghost use Rattle.floyd_assert_changes.specs.ChangesClauses.{IsStill, bits_onto, changes_of, refusal_of};
 ghost use Rattle.floyd_tree.specs.declared.stop.MakeStop.TheVariants.{IllSorted};
 ghost use Rattle.floyd_tree_sorts.specs.Prints.{slot};
@@ -6,6 +7,7 @@ ghost use Rattle.floyd_truth.specs.Capture.{Called, Changes};
 ghost use Rattle.floyd_truth.specs.Replace.{puts};
 
 use crate::changing::{Becomes, Change};
+use floyd_assert_trees::Binder;
 use floyd_text::{Code, Name, No, RuleStop, Shown};
 use floyd_tree::{MakeStop, Term};
 use floyd_tree_sorts::slot;
@@ -48,6 +50,48 @@ pub fn refused(stop: MakeStop) -> RuleStop
         }),
         MakeStop::Memory => RuleStop::Memory,
     }
+}
+
+/// The changes below existentials that have these new names.
+pub fn existential_changes(
+    alloc: Global,
+    by: &[Change],
+    old: &[Binder],
+    new: &[Binder],
+) -> Result<Vec<Change>, AllocError>
+    requires { length old.now ≡ length new.now }
+    ensures { IfOk result (λ all. changes_of all.items ≡ below_existentials (changes_of by.now) old.now new.now) }
+{
+    let mut all = Vec::new(alloc);
+    'existentials: for i in 0..old.len() {
+        let place = old.len() - (i + 1);
+        let name = old[place].name.share()?;
+        let becomes = Becomes::Called(new[place].name.share()?);
+        all.push(Change { name, becomes })?;
+    }
+    push_changes(&mut all, by)?;
+    Ok(all)
+}
+
+fn push_changes(all: &mut Vec<Change>, by: &[Change]) -> Result<(), AllocError>
+    ensures { OnOk result (changes_of all.new.items ≡ changes_of all.old.items ++ changes_of by.now) }
+{
+    'changes: for change in by {
+        all.push(change.share()?)?;
+    }
+    Ok(())
+}
+
+/// The bits of variables that may not stay as they are below existentials that have these new names.
+pub fn existential_bits(bits: u64, old: &[Binder], new: &[Binder]) -> u64
+    requires { length old.now ≡ length new.now }
+    ensures { (changes : Changes) → IsStill bits changes → IsStill result (below_existentials changes old.now new.now) }
+{
+    let mut all = bits;
+    'existentials: for i in 0..old.len() {
+        all = bits_with(all, &old[i].name, &new[i].name);
+    }
+    all
 }
 
 /// The bits of variables that may not stay as they are below a binder of x that has this name now.
