@@ -1,5 +1,5 @@
 -- What a conjunction beyond the limits refuses.
-use Rattle.std.proofs.Common.{◌≡◌, Bool, true, false, cond, List, Option, Some, None, Result, Ok, Err, refl, ap, sym, subst, ◌∙◌}
+use Rattle.std.proofs.Common.{◌≡◌, Bool, true, false, cond, List, Option, Some, None, Result, Ok, Err, ap, sym, subst}
 use Rattle.floyd_text.specs.declared.refusal.No.{No}
 use Rattle.floyd_text.specs.declared.refusal.RuleStop.{RuleStop}
 use Rattle.floyd_text.specs.declared.refusal.RuleStop.TheVariants as r

@@ -1,5 +1,5 @@
 -- Sizes of stacks.
-use Rattle.std.proofs.Common.{◌≡◌, ℕ, ◌+◌, ◌<◌, ◌≤◌, Bool, true, false, cond, List, [], ◌∷◌, ◌++◌, length, Result, Ok, Err, refl, ap, sym, subst, ◌∙◌, arith, true≢false}
+use Rattle.std.proofs.Common.{◌≡◌, ◌<◌, ◌≤◌, Bool, true, false, cond, List, [], ◌∷◌, ◌++◌, length, Result, Ok, Err, refl, ap, sym, subst, ◌∙◌, arith, true≢false}
 use Rattle.std.specs.Prelude.{nat_le}
 use Rattle.std.proofs.lemmas.List.{append_assoc}
 use Rattle.std.proofs.lemmas.Bool.{le-leb, lt-leb, leb-true, false_from_ne_true}
@@ -9,7 +9,7 @@ use Rattle.floyd_text.specs.declared.refusal.RuleStop.TheVariants as r
 use Rattle.floyd_text.specs.Gives.{RuleStops}
 use Rattle.floyd_assert_trees.specs.Sizes.{sum_of}
 use Rattle.floyd_goal_trees.specs.declared.goal.Goal.{Goal}
-use Rattle.floyd_goal_trees.specs.Sizes.{goal_size, nodes}
+use Rattle.floyd_goal_trees.specs.Sizes.{goal_size}
 use Rattle.floyd_goal.specs.Stacks.{fitting, most, too_many}
 
 -- each goal counts

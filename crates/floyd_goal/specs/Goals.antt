@@ -1,9 +1,8 @@
 -- What the rules share: refusals, hypotheses by number, and a goal in another context.
-use Rattle.std.specs.Prelude.{◌≡◌, ℕ, zero, suc, ◌-◌, Bool, true, false, List, [], ◌∷◌, ◌++◌, Option, Some, None, slice_get, Result, Err}
+use Rattle.std.specs.Prelude.{ℕ, zero, suc, Bool, true, false, List, [], ◌∷◌, Option, None, slice_get}
 use Rattle.floyd_text.specs.declared.code.Code.{Code}
 use Rattle.floyd_text.specs.declared.code.Code.TheVariants as c
 use Rattle.floyd_text.specs.declared.refusal.No.{No}
-use Rattle.floyd_text.specs.declared.refusal.Shown.{Shown}
 use Rattle.floyd_text.specs.declared.refusal.Shown.TheVariants.{Nothing, Hypothesis}
 use Rattle.floyd_tree.specs.Formulas.{PlainFormula}
 use Rattle.floyd_assert_trees.specs.declared.binder.Binder.{Binder}
@@ -12,7 +11,6 @@ use Rattle.floyd_goal_trees.specs.declared.args.Target as t
 use Rattle.floyd_goal_trees.specs.declared.context.Context.{Context}
 use Rattle.floyd_goal_trees.specs.declared.goal.Goal.{Goal}
 use Rattle.floyd_goal_trees.specs.declared.goal.Goal.TheVariants.{Run, Entail, Pure}
-use Rattle.floyd_goal.specs.Sides.{context_of}
 
 abbrev pub refusal : Code → No
 refusal code = record { code = code; shown = Nothing }

@@ -8,7 +8,6 @@ use Rattle.floyd_goal_trees.specs.Contexts.{after_command}
 use Rattle.floyd_goal_trees.specs.declared.context.Context.{Context}
 use Rattle.floyd_goal_trees.specs.declared.goal.Goal.{Goal}
 use Rattle.floyd_goal_trees.specs.declared.goal.Goal.TheVariants as g
-use Rattle.floyd_goal_trees.specs.declared.goal.Pure.{Pure}
 use Rattle.floyd_goal.specs.declared.side_goals.Sides.{Sides}
 
 abbrev pub context_of : Goal → Context

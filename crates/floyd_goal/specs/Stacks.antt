@@ -1,6 +1,5 @@
 -- The goals that are left of a proof, in order, and what a push leaves.
-use Rattle.std.specs.Prelude.{◌≡◌, ℕ, ◌≤◌, nat_le, List, [], ◌∷◌, ◌++◌, drop, length, Option, Some, None, Result, Ok, Err, if◌then◌else◌}
-use Rattle.std.specs.declared.rc.Rc.{Rc}
+use Rattle.std.specs.Prelude.{◌≡◌, ℕ, nat_le, List, ◌++◌, drop, Result, Ok, Err, if◌then◌else◌}
 use Rattle.floyd_text.specs.declared.code.Code.TheVariants.{GoalsTooLarge}
 use Rattle.floyd_text.specs.declared.refusal.No.{No}
 use Rattle.floyd_text.specs.declared.refusal.RuleStop.{RuleStop}

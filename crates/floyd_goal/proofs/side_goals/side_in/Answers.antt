@@ -1,4 +1,4 @@
-use Rattle.std.proofs.Common.{◌≡◌, rules, ◌∙◌}
+use Rattle.std.proofs.Common.{◌≡◌, rules}
 use Rattle.floyd_goal.proofs.SideLemmas.{stops_side}
 use Rattle.floyd_goal.proofs.side_goals.side_in.Goals as goal
 

@@ -1,4 +1,4 @@
-use Rattle.std.proofs.Common.{◌≡◌, ◌++◌}
+use Rattle.std.proofs.Common.{◌++◌}
 use Rattle.floyd_goal.proofs.StackLemmas.{stops_at}
 use Rattle.floyd_goal.proofs.stack.GoalStack.under_all.Goals as goal
 
