@@ -1,9 +1,9 @@
 -- What follows from the words about shelves and sinks.
-use Rattle.std.proofs.Common.{◌≡◌, ◌+◌, ◌-◌, ◌<◌, ◌≤◌, ℕ, Option, Some, None, List, [], ◌∷◌, ◌++◌, length, take, drop, refl, sym, ◌∙◌, ap, subst, arith, append_assoc, IsSome, IsSomeAnd, length-append}
+use Rattle.std.proofs.Common.{◌≡◌, ◌+◌, ◌-◌, ◌<◌, ◌≤◌, ℕ, Option, Some, None, List, [], ◌∷◌, ◌++◌, length, take, drop, refl, sym, ◌∙◌, ap, subst, arith, append_assoc, IsSome, IsSomeAnd, length-append, inr}
 use Rattle.std.proofs.Math.Seq.{drop-append_seam, take-add, take-length}
-use Rattle.std.proofs.lemmas.List.{take-append-drop, append-nil, take_rest}
+use Rattle.std.proofs.lemmas.List.{take-append-drop, append-nil, take_rest, length-take}
 use Rattle.std.specs.Option.{option_map}
-use Rattle.floyd_text.specs.Outside.{Files, file_in, bytes_from, HasFile, HasSome, HasNone, HasLonger, HasFront, IsFront, IsRead, IsPiece, Rose, Appends, AppendsFront}
+use Rattle.floyd_text.specs.Outside.{Files, file_in, bytes_from, HasFile, HasSome, HasNone, HasLonger, HasFront, IsFront, IsRead, IsPiece, PutsFile, PutsFront, Rose, Appends, AppendsFront, max_file}
 
 empty_is : (xs : List ℕ) → length xs ≡ 0 → xs ≡ []
 empty_is [] h = refl
@@ -125,3 +125,38 @@ rose_after before mid now later h = omega arith
 -- a count that stays 0 did not rise
 pub not_rose : Rose 0 0 → ⊥
 not_rose h = omega arith
+
+-- what was read of the same file at the same place
+pub read_there : (held held' : Option Files) (name : List ℕ) (at at' room n : ℕ) (into : List ℕ) → held ≡ held' → at ≡ at' → IsRead held name at room n into → IsRead held' name at' room n into
+read_there held held' name at at' room n into e f read = subst (λ (h : Option Files). IsRead h name at' room n into) e (subst (λ (a : ℕ). IsRead held name a room n into) f read)
+
+-- a front of a file came to the end: so many bytes of it
+abbrev pub HasTaken : Option Files → List ℕ → List ℕ → List ℕ → ℕ → Type 0
+HasTaken held name old new at = (bytes : List ℕ) × (new ≡ old ++ bytes) × (at ≡ length bytes) × HasFront held name bytes
+
+-- .. and a piece more
+module _ (held now_held : Option Files) (name old now new : List ℕ) (at room n : ℕ) (into : List ℕ) (so_far : HasTaken held name old now at) (same : now_held ≡ held) (read : IsRead now_held name at room n into) (put : new ≡ now ++ take n into) where
+  here : IsRead held name (length so_far.0) room n into
+  here = read_there now_held held name at (length so_far.0) room n into same so_far.2 read
+
+  joined : new ≡ old ++ (so_far.0 ++ take n into)
+  joined = put ∙ ap (λ (xs : List ℕ). xs ++ take n into) so_far.1 ∙ append_assoc old so_far.0 (take n into)
+
+  pub takes_more : n ≤ length into → HasTaken held name old new (at + n)
+  takes_more within =
+      let len : at + n ≡ length (so_far.0 ++ take n into) = simp (length-append, length-take) (omega (arith, so_far.2, within)) in
+      (so_far.0 ++ take n into, joined, len, has_more held name so_far.0 room n into so_far.3 here)
+
+  pub takes_all : n ≡ 0 → 0 < room → n ≤ length into → at ≤ max_file → PutsFile held name old new
+  takes_all none some within small =
+      let len : length (so_far.0 ++ take n into) ≤ max_file = simp (length-append, length-take) (omega (arith, so_far.2, within, none, small)) in
+      (so_far.0 ++ take n into, joined, has_end held name so_far.0 room n into none so_far.3 some here, len)
+
+pub front_of_taken : (held : Option Files) (name old new : List ℕ) (at : ℕ) → HasTaken held name old new at → PutsFront held name old new
+front_of_taken held name old new at t = (t.0, t.1, inr t.3)
+
+pub longer_taken : (held : Option Files) (name old new : List ℕ) (at : ℕ) → HasTaken held name old new at → max_file < at → HasLonger held name max_file
+longer_taken held name old new at t long = has_longer held name t.0 max_file t.3 (omega (arith, t.2, long))
+
+pub taken_start : (held : Option Files) (name old : List ℕ) → HasSome held name → HasTaken held name old old 0
+taken_start held name old some = ([], sym (append-nil old), refl, has_start held name some)

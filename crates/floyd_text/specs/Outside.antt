@@ -1,5 +1,5 @@
 -- Files by their names, counts of faults, and what a shelf and a sink answer.
-use Rattle.std.specs.Prelude.{◌≡◌, ◌+◌, ◌-◌, ◌^◌, ◌<◌, ◌≤◌, ℕ, min, Option, Some, None, Result, List, [], ◌++◌, length, take, drop, find, bytes_eq, IsSome, IsSomeAnd, OnErr}
+use Rattle.std.specs.Prelude.{◌≡◌, ◌+◌, ◌-◌, ◌^◌, ◌<◌, ◌≤◌, ◌⊎◌, ℕ, min, Option, Some, None, Result, List, [], ◌++◌, length, take, drop, find, bytes_eq, IsSome, IsSomeAnd, OnErr}
 use Rattle.std.specs.Option.{option_map}
 use Rattle.floyd_text.specs.declared.named_file.NamedFile.{NamedFile}
 use Rattle.floyd_text.specs.declared.outside.Found.{Found}
@@ -8,6 +8,10 @@ use Rattle.floyd_text.specs.declared.outside.Found.TheVariants.{There, Missing}
 -- a finite map from names to bytes: the first file of a name is the one that counts
 abbrev pub Files : Type 0
 Files = List NamedFile
+
+-- a file is read if it has no more bytes than this
+abbrev pub max_file : ℕ
+max_file = 4194304
 
 -- the bytes of the file of that name
 unfoldable pub file_in : Files → List ℕ → Option (List ℕ)
@@ -64,6 +68,14 @@ unfoldable pub HasFront : Option Files → List ℕ → List ℕ → Type 0
 HasFront None name front = Unit {0}
 HasFront (Some files) name front = IsFront (file_in files name) front
 
+-- the bytes of the file of that name came to the end, no more than are read
+abbrev pub PutsFile : Option Files → List ℕ → List ℕ → List ℕ → Type 0
+PutsFile held name old new = (bytes : List ℕ) × (new ≡ old ++ bytes) × HasFile held name bytes × (length bytes ≤ max_file)
+
+-- a front of the file of that name came to the end, which is empty where there is none
+abbrev pub PutsFront : Option Files → List ℕ → List ℕ → List ℕ → Type 0
+PutsFront held name old new = (bytes : List ℕ) × (new ≡ old ++ bytes) × ((bytes ≡ []) ⊎ HasFront held name bytes)
+
 -- a count rose, or stands at its end
 abbrev pub Rose : ℕ → ℕ → Type 0
 Rose before now = min (before + 1) (2 ^ 64 - 1) ≤ now
@@ -80,7 +92,3 @@ Appends old new bytes = new ≡ option_map (λ written. written ++ bytes) old
 -- where the sink tells, a front of the bytes was put at the end of what was written
 abbrev pub AppendsFront : Option (List ℕ) → Option (List ℕ) → List ℕ → Type 0
 AppendsFront old new bytes = (n : ℕ) × Appends old new (take n bytes)
-
--- a file is read if it has no more bytes than this
-abbrev pub max_file : ℕ
-max_file = 4194304

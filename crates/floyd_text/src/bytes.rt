@@ -1,5 +1,6 @@
 ghost use Rattle.std.specs.Prelude.{◌≡◌, [], ◌∷◌, ◌++◌, length, IfOk, OnOk, OnErr, IsTrue, ◌↔◌};
 
+use crate::outside::Taker;
 use std::alloc::{AllocError, Global};
 use std::marker::Model;
 
@@ -80,5 +81,15 @@ impl Bytes {
     {
         self.bytes.extend_from_slice(bytes)?;
         Ok(())
+    }
+}
+
+impl Taker for Bytes {
+    ghost taken = { λ b. b };
+
+    ghost origin = { λ _. [] };
+
+    fn take(&mut self, piece: &[u8]) -> Result<(), AllocError> {
+        self.extend(piece)
     }
 }

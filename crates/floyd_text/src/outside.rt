@@ -1,6 +1,7 @@
-ghost use Rattle.std.specs.Prelude.{◌≡◌, ◌≤◌, ℕ, Option, List, length, min, take, IfOk, OnErr};
+ghost use Rattle.std.specs.Prelude.{◌≡◌, ◌≤◌, ◌++◌, ℕ, Option, List, length, min, take, IfOk, OnErr, OnOk};
 ghost use Rattle.floyd_text.specs.Outside.{Files, IsFound, IsRead, HasCause, Appends};
 
+use std::alloc::AllocError;
 use thiserror::Error;
 
 /// What a shelf answers about a name.
@@ -58,4 +59,19 @@ pub trait Sink {
         ensures ok { IfOk result (λ n. Appends (written self.old) (written self.new) (take n piece.now)) }
         ensures err { OnErr result (written self.new ≡ written self.old) }
         ensures cause { HasCause (faults self.old) (faults self.new) result };
+}
+
+/// What takes the bytes of a file, piece by piece.
+pub trait Taker {
+    /// The bytes that were taken so far.
+    ghost taken: { Self → List ℕ };
+
+    /// Numbers that say what the bytes are. No call changes them.
+    ghost origin: { Self → List ℕ };
+
+    /// Puts the piece at the end, or changes nothing.
+    fn take(&mut self, piece: &[u8]) -> Result<(), AllocError>
+        ensures ok { OnOk result (taken self.new ≡ taken self.old ++ piece.now) }
+        ensures err { OnErr result (taken self.new ≡ taken self.old) }
+        ensures origin { origin self.new ≡ origin self.old };
 }
