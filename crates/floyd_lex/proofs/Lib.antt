@@ -1,6 +1,5 @@
 pub mod CutLemmas
 pub mod GapLemmas
-pub mod LineLemmas
 pub mod LocalLemmas
 pub mod MoveLemmas
 pub mod NameLemmas
@@ -10,4 +9,4 @@ pub mod ListLemmas
 pub mod OneCut
 pub mod OrderLemmas
 pub mod PackingLemmas
-pub mod PlaceLemmas
+pub mod SpotLemmas

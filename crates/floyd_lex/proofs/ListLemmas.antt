@@ -2,24 +2,18 @@
 use Rattle.std.proofs.Common.{◌≡◌, ℕ, ◌-◌, ◌∙◌, List, [], ◌∷◌, map, min, length, take, drop, Some, option_map, slice_get, ap, sym, suc, zero, inl, inr, arith}
 use Rattle.std.proofs.lemmas.List.{take_min, length-drop}
 use Rattle.std.proofs.lemmas.Bool.{cases_lt}
-use Rattle.floyd_text.specs.declared.place.Place.{Place}
-use Rattle.floyd_lex.specs.Token.{Piece, placed, text_of}
+use Rattle.floyd_lex.specs.Token.{Lexeme, text_of}
 
-abbrev span_of : Piece → ℕ × ℕ
-span_of p = (p.start, p.end)
+abbrev span_of : Lexeme → ℕ × ℕ
+span_of x = (x.start, x.end)
 
 same_span : (a b : ℕ × ℕ) → Some a ≡ Some b → a ≡ b
 same_span a b e = cc
 
-pub place_at_index : (place : ℕ → Place) (xs : List Piece) (at start end : ℕ) → option_map span_of (slice_get xs at) ≡ Some (start, end) → option_map (λ x. x.place) (slice_get (map (placed place) xs) at) ≡ Some (place start)
-place_at_index place [] at start end e = absurd cc
-place_at_index place (x ∷ xs) zero start end e = ap (λ (s : ℕ × ℕ). Some (place s.0)) (same_span (x.start, x.end) (start, end) e)
-place_at_index place (x ∷ xs) (suc at) start end e = place_at_index place xs at start end e
-
-pub text_at_index : (place : ℕ → Place) (bytes : List ℕ) (xs : List Piece) (at start end : ℕ) → option_map span_of (slice_get xs at) ≡ Some (start, end) → option_map (text_of bytes) (slice_get (map (placed place) xs) at) ≡ Some (take (end - start) (drop start bytes))
-text_at_index place bytes [] at start end e = absurd cc
-text_at_index place bytes (x ∷ xs) zero start end e = ap (λ (s : ℕ × ℕ). Some (take (s.1 - s.0) (drop s.0 bytes))) (same_span (x.start, x.end) (start, end) e)
-text_at_index place bytes (x ∷ xs) (suc at) start end e = text_at_index place bytes xs at start end e
+pub text_at_index : (bytes : List ℕ) (xs : List Lexeme) (at start end : ℕ) → option_map span_of (slice_get xs at) ≡ Some (start, end) → option_map (text_of bytes) (slice_get xs at) ≡ Some (take (end - start) (drop start bytes))
+text_at_index bytes [] at start end e = absurd cc
+text_at_index bytes (x ∷ xs) zero start end e = ap (λ (s : ℕ × ℕ). Some (take (s.1 - s.0) (drop s.0 bytes))) (same_span (x.start, x.end) (start, end) e)
+text_at_index bytes (x ∷ xs) (suc at) start end e = text_at_index bytes xs at start end e
 
 same_take : (m n : ℕ) (xs : List ℕ) → min m (length xs) ≡ min n (length xs) → take m xs ≡ take n xs
 same_take m n xs e = sym (take_min m xs) ∙ ap (λ (k : ℕ). take k xs) e ∙ take_min n xs

@@ -1,12 +1,13 @@
 pub mod Classes
 pub mod Cuts
+pub mod CuttingClauses
 pub mod Front
 pub mod Keywords
 pub mod Laws
-pub mod LinesClauses
 pub mod Marks
 pub mod Numbers
 pub mod PackingClauses
 pub mod Quotes
+pub mod SpotClauses
 pub mod Token
 pub mod Unicode

@@ -2,10 +2,10 @@
 use Rattle.std.specs.Prelude.{◌≡◌, ℕ, ◌<◌, ◌++◌, List, [], ◌∷◌, length, map, slice_index}
 use Rattle.floyd_lex.specs.declared.kinds.TokenKind.{TokenKind}
 use Rattle.floyd_lex.specs.declared.kinds.TokenKind.TheVariants as k
-use Rattle.floyd_lex.specs.declared.pieces.Form.{Form}
-use Rattle.floyd_lex.specs.declared.pieces.Form.TheVariants.{Name, Keyword, Punctuator, Short, Long, StringLiteral}
-use Rattle.floyd_lex.specs.declared.pieces.Packed.{Packed}
-use Rattle.floyd_lex.specs.Token.{Piece}
+use Rattle.floyd_lex.specs.declared.list.Form.{Form}
+use Rattle.floyd_lex.specs.declared.list.Form.TheVariants.{Name, Keyword, Punctuator, Short, Long, StringLiteral}
+use Rattle.floyd_lex.specs.declared.list.Packed.{Packed}
+use Rattle.floyd_lex.specs.Token.{Lexeme}
 
 -- what a token is, by its form and its number, where the long values stand in a list
 abbrev pub kind_of : List ℕ → Form → ℕ → TokenKind
@@ -16,11 +16,16 @@ kind_of long (Short t) value = k.Literal t value
 kind_of long (Long t) value = k.Literal t (slice_index long value)
 kind_of long StringLiteral value = k.StringLiteral
 
-abbrev pub piece_of : List ℕ → Packed → Piece
-piece_of long p = record { kind = kind_of long p.form p.value; start = p.start; end = p.end }
+abbrev pub lexeme_of : ℕ → List ℕ → Packed → Lexeme
+lexeme_of file long p = record {
+  kind = kind_of long p.form p.value;
+  start = p.start;
+  end = p.end;
+  place = record { file = file; line = p.line; column = p.column };
+}
 
-abbrev pub pieces_of : List ℕ → List Packed → List Piece
-pieces_of long packed = map (piece_of long) packed
+abbrev pub lexemes_of : ℕ → List ℕ → List Packed → List Lexeme
+lexemes_of file long packed = map (lexeme_of file long) packed
 
 -- a long literal's number is one of the list
 abbrev pub IsWithin : List ℕ → Form → ℕ → Type 0

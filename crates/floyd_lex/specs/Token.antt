@@ -1,5 +1,5 @@
 -- Tokens as contracts see them.
-use Rattle.std.specs.Prelude.{ℕ, ◌-◌, List, map, take, drop}
+use Rattle.std.specs.Prelude.{ℕ, ◌-◌, List, [], ◌∷◌, ◌++◌, map, take, drop}
 use Rattle.floyd_text.specs.declared.place.Place.{Place}
 use Rattle.floyd_lex.specs.declared.kinds.TokenKind.{TokenKind}
 
@@ -24,6 +24,12 @@ placed place p = record { kind = p.kind; start = p.start; end = p.end; place = p
 pub record TokenList : Type 0 where
   pub file : ℕ
   pub items : List Lexeme
+
+abbrev pub empty_list : ℕ → TokenList
+empty_list file = record { file = file; items = [] }
+
+abbrev pub with_last : TokenList → Lexeme → TokenList
+with_last list x = record { file = list.file; items = list.items ++ x ∷ [] }
 
 -- a token as a grammar sees it, with its text
 pub record Token : Type 0 where

@@ -2,21 +2,20 @@
 #![tactic(auto)]
 
 mod classes;
-mod cut;
+mod cutting;
 mod front;
 mod keywords;
 mod kinds;
 mod laws;
 mod lead;
-mod lines;
 mod list;
 mod marks;
 mod numbers;
-mod pieces;
 mod quotes;
+mod spot;
 mod unicode;
 
-pub use cut::tokens;
+pub use cutting::tokens;
 pub use kinds::{FileKind, Keyword, LiteralType, Punctuator, TokenKind};
 pub use laws::{
     has_one_cut, lines_stand_alone, texts_stand_in_order, texts_stand_on_lines, tokens_suit,

@@ -1,54 +1,112 @@
-ghost use Rattle.std.specs.Prelude.{◌≡◌, ◌<◌, ◌==◌, length, map, slice_get, option_map, Some};
-ghost use Rattle.floyd_lex.specs.LinesClauses.{place_by};
-ghost use Rattle.floyd_lex.specs.Token.{text_of, placed};
+ghost use Rattle.std.specs.Prelude.{◌≡◌, ◌<◌, ◌≤◌, ◌-◌, ◌==◌, [], ◌++◌, length, take, drop, slice_get, option_map, IfOk, OnOk, OnErr, Some};
+ghost use Rattle.floyd_lex.specs.Token.{text_of, with_last, empty_list};
+ghost use Rattle.floyd_lex.specs.declared.list.Packed.{Packed};
+ghost use Rattle.floyd_lex.specs.PackingClauses.{kind_of, IsWithin, Grows};
 
-use crate::kinds::TokenKind;
-use crate::lines::Lines;
-use crate::pieces::Pieces;
+use crate::kinds::{Keyword, LiteralType, Punctuator, TokenKind};
 use floyd_text::Place;
+use std::alloc::{AllocError, Global};
 use std::marker::Model;
 
-/// The tokens of a file, in order, with the file's number. Contracts see the list of what each token is, its span and
-/// its place; its text stands in the file's bytes, which are not kept here.
+/// What a token is, without a literal's value, which stands in its token where it has 32 bits at most, and else in a
+/// list beside.
+#[derive(Clone, Copy)]
+enum Form {
+    Name,
+    Keyword(Keyword),
+    Punctuator(Punctuator),
+    Short(LiteralType),
+    Long(LiteralType),
+    StringLiteral,
+}
+
+/// A token in 24 bytes, with the line and the column of its first byte. `value` is the value of a short literal, and the
+/// place of a long one's in the list beside.
+#[derive(Clone, Copy)]
+struct Packed {
+    start: u32,
+    end: u32,
+    line: u32,
+    column: u32,
+    value: u32,
+    form: Form,
+}
+
+const _: () = prove!(size_of::<Packed>() == 24);
+
+/// The tokens of a file, or an unbroken part of them, in order, with the file's number. Contracts see the list of what
+/// each token is, its span and its place; its text stands in the file's bytes, which are not kept here.
 pub struct Tokens {
     file: u32,
-    pieces: Pieces,
-    lines: Lines,
+    packed: Vec<Packed>,
+    long: Vec<u128>,
 }
 
 impl Drop for Tokens {
     fn drop(self) {
         let Tokens {
             file: _,
-            pieces,
-            lines,
+            packed,
+            long,
         } = self;
-        drop(pieces);
-        drop(lines);
+        drop(packed);
+        drop(long);
     }
 }
 
 impl Model for Tokens {
-    ghost use Rattle.std.specs.Prelude.{map};
     ghost use Rattle.floyd_lex.specs.Token.{TokenList};
 
     ghost Value = { TokenList };
 
-    ghost use Rattle.floyd_lex.specs.Token.{placed};
-    ghost use Rattle.floyd_lex.specs.LinesClauses.{place_by};
+    ghost use Rattle.floyd_lex.specs.PackingClauses.{lexemes_of, AreWithin};
 
-    ghost view = { λ t. record { file = t.file; items = map (placed (place_by t.file t.lines)) t.pieces } };
+    ghost view = { λ t. record { file = t.file; items = lexemes_of t.file t.long.items t.packed.items } };
+
+    ghost invariant = { λ t. AreWithin t.long.items t.packed.items };
 }
 
 impl Tokens {
-    pub(crate) fn new(file: u32, pieces: Pieces, lines: Lines) -> Tokens
-        ensures { result ≡ record { file = file; items = map (placed (place_by file lines)) pieces } }
+    pub(crate) fn new(alloc: Global, file: u32) -> Tokens
+        ensures { result ≡ empty_list file }
     {
         Tokens {
             file,
-            pieces,
-            lines,
+            packed: Vec::new(alloc),
+            long: Vec::new(alloc),
         }
+    }
+
+    /// Puts a token at the end, whose first byte stands on that line in that column. After an `Err` the list is as
+    /// before.
+    pub(crate) fn push(
+        &mut self,
+        kind: TokenKind,
+        start: u32,
+        end: u32,
+        line: u32,
+        column: u32,
+    ) -> Result<(), AllocError>
+        ensures ok { OnOk result (self.new ≡ with_last self.old record { kind = kind; start = start; end = end; place = record { file = self.old.file; line = line; column = column } }) }
+        ensures err { OnErr result (self.new ≡ self.old) }
+    {
+        let (form, value) = form_of(&mut self.long, kind)?;
+        self.packed.push(Packed {
+            start,
+            end,
+            line,
+            column,
+            value,
+            form,
+        })?;
+        Ok(())
+    }
+
+    /// Keeps so many tokens at most.
+    pub(crate) fn truncate(&mut self, len: usize)
+        ensures { self.new ≡ record { file = self.old.file; items = take len self.old.items } }
+    {
+        self.packed.truncate(len);
     }
 
     pub fn file(&self) -> u32
@@ -60,20 +118,23 @@ impl Tokens {
     pub fn len(&self) -> usize
         ensures { result ≡ length self.now.items }
     {
-        self.pieces.len()
+        self.packed.len()
     }
 
     pub fn is_empty(&self) -> bool
         ensures { result ≡ (length self.now.items == 0) }
     {
-        self.pieces.len() == 0
+        self.packed.len() == 0
     }
 
     /// What the token at `at` is, and none behind the last.
     pub fn kind(&self, at: usize) -> Option<TokenKind>
         ensures { result ≡ option_map (λ x. x.kind) (slice_get self.now.items at) }
     {
-        self.pieces.kind(at)
+        let Some(p) = self.packed.get(at) else {
+            return None;
+        };
+        Some(unpack(self.long.as_slice(), p))
     }
 
     /// The text of the token at `at`, where the bytes are those of its file.
@@ -81,7 +142,7 @@ impl Tokens {
         requires { at < length self.now.items }
         ensures { option_map (text_of bytes.now) (slice_get self.now.items at) ≡ Some result.now }
     {
-        let (start, end) = self.pieces.span(at);
+        let (start, end) = self.span(at);
         let end = bytes.len().min(end as usize);
         &bytes[end.min(start as usize)..end]
     }
@@ -91,7 +152,8 @@ impl Tokens {
         requires { at < length self.now.items }
         ensures { option_map (λ x. (x.start, x.end)) (slice_get self.now.items at) ≡ Some result }
     {
-        self.pieces.span(at)
+        let p = &self.packed[at];
+        (p.start, p.end)
     }
 
     /// The place of the first byte of the token at `at`.
@@ -99,7 +161,47 @@ impl Tokens {
         requires { at < length self.now.items }
         ensures { option_map (λ x. x.place) (slice_get self.now.items at) ≡ Some result }
     {
-        let (start, _) = self.pieces.span(at);
-        self.lines.place(self.file, start)
+        let p = &self.packed[at];
+        Place {
+            file: self.file,
+            line: p.line,
+            column: p.column,
+        }
+    }
+}
+
+/// The form and the number of a token. A long value goes to the end of the list.
+fn form_of(long: &mut Vec<u128>, kind: TokenKind) -> Result<(Form, u32), AllocError>
+    ensures grows { Grows long.old.items long.new.items }
+    ensures ok { IfOk result (λ r. (kind_of long.new.items r.0 r.1 ≡ kind) × IsWithin long.new.items r.0 r.1) }
+{
+    match kind {
+        TokenKind::Name => Ok((Form::Name, 0)),
+        TokenKind::Keyword(word) => Ok((Form::Keyword(word), 0)),
+        TokenKind::Punctuator(mark) => Ok((Form::Punctuator(mark), 0)),
+        TokenKind::Literal(of, value) if value < 1 << 32 => Ok((Form::Short(of), value as u32)),
+        TokenKind::Literal(of, value) => {
+            let at = long.len();
+            if at > u32::MAX as usize {
+                return Err(AllocError);
+            }
+            long.push(value)?;
+            Ok((Form::Long(of), at as u32))
+        }
+        TokenKind::StringLiteral => Ok((Form::StringLiteral, 0)),
+    }
+}
+
+/// What the token is, where the long values are given.
+fn unpack(long: &[u128], p: &Packed) -> TokenKind
+    ensures { result ≡ kind_of long.now p.now.form p.now.value }
+{
+    match p.form {
+        Form::Name => TokenKind::Name,
+        Form::Keyword(word) => TokenKind::Keyword(word),
+        Form::Punctuator(mark) => TokenKind::Punctuator(mark),
+        Form::Short(of) => TokenKind::Literal(of, p.value as u128),
+        Form::Long(of) => TokenKind::Literal(of, long.get(p.value as usize).copied().unwrap_or(0)),
+        Form::StringLiteral => TokenKind::StringLiteral,
     }
 }
