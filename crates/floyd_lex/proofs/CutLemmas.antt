@@ -1,7 +1,6 @@
 -- The steps of a cut, behind the tokens that were cut so far.
-use Rattle.std.proofs.Common.{◌≡◌, ℕ, ◌+◌, ◌-◌, ◌<◌, ◌≤◌, List, map, Ok, Err, [], ◌∷◌, ◌++◌, length, take, drop, suc, Option, Some, None, refl, ap, sym, subst, ◌∙◌, append_assoc, true, false, arith}
+use Rattle.std.proofs.Common.{◌≡◌, ℕ, ◌+◌, ◌-◌, ◌<◌, ◌≤◌, List, map, [], ◌∷◌, ◌++◌, length, take, drop, suc, Option, Some, None, ap, sym, subst, ◌∙◌, append_assoc, true, false, arith}
 use Rattle.std.proofs.lemmas.List.{length-drop, append-nil, length-append, length-map, map-append}
-use Rattle.floyd_lex.specs.declared.cutting.Stand.{Stand}
 use Rattle.floyd_lex.specs.declared.kinds.FileKind.{FileKind}
 use Rattle.floyd_lex.specs.declared.kinds.TokenKind.{TokenKind}
 use Rattle.floyd_lex.specs.declared.lead.Flaw.{Flaw}
@@ -10,8 +9,8 @@ use Rattle.floyd_lex.specs.declared.lead.Lead.{Lead}
 use Rattle.floyd_lex.specs.declared.lead.Lead.TheVariants as lead
 use Rattle.floyd_lex.specs.declared.spot.Spot.{Spot}
 use Rattle.floyd_lex.specs.Front.{front}
-use Rattle.floyd_lex.specs.Cuts.{Cuts, Outcome, ended, stopped, with_first, is_long_name, ends, skips, takes, is_long, is_full, refuses, refusal_of, IsCut, Answers}
-use Rattle.floyd_lex.specs.CuttingClauses.{HasCut, HasMore, EndsAt, behind_list, place_of_spot}
+use Rattle.floyd_lex.specs.Cuts.{Cuts, Outcome, stopped, with_first, is_long_name, ends, skips, takes, is_long, is_full, refuses}
+use Rattle.floyd_lex.specs.CuttingClauses.{HasCut, EndsAt, behind_list, place_of_spot}
 use Rattle.floyd_lex.specs.SpotClauses.{IsSpot}
 use Rattle.floyd_lex.specs.Token.{Piece, Lexeme, TokenList, placed, with_last}
 use Rattle.floyd_text.specs.declared.place.Place.{Place}
@@ -129,7 +128,8 @@ module _ (kind : FileKind) (bytes : List ℕ) (old new : TokenList) (from : ℕ)
       let p : Piece = record { kind = t; start = spot.at; end = spot.at + n } in
       let file : new.file ≡ old.file = ap (λ (l : TokenList). l.file) so.1 in
       let place = ap (λ (f : ℕ). place_of_spot f spot) file ∙ place_is bytes spot s old.file in
-      let room : length so.0 < 1000000 - length old.items = omega (arith, count_of so, some) in
-      (so.0 ++ p ∷ [],
+      let room : length so.0 < 1000000 - length old.items = omega (arith, count_of so, some) in (
+        so.0 ++ p ∷ [],
         put ∙ ap (λ q. with_last new record { kind = t; start = spot.at; end = spot.at + n; place = q }) place ∙ ap (λ (l : TokenList). with_last l (placed (place_at old.file bytes) p)) so.1 ∙ sym (behind_one old so.0 (place_at old.file bytes) p),
-        subst (λ (m : ℕ). Rest kind bytes (1000000 - length old.items) from m (so.0 ++ p ∷ [])) (sym same) (piece kind bytes (1000000 - length old.items) from spot.at so.0 n t room so.2 e short))
+        subst (λ (m : ℕ). Rest kind bytes (1000000 - length old.items) from m (so.0 ++ p ∷ [])) (sym same) (piece kind bytes (1000000 - length old.items) from spot.at so.0 n t room so.2 e short),
+      )

@@ -55,11 +55,15 @@ line_split (x ∷ xs) = elim (eqb x 10) as (λ v. eqb x 10 ≡ v → cond (not v
       rw (one, two) (ap (λ (zs : List ℕ). x ∷ zs) (line_split xs (omega (arith, h))))
 ] refl
 
+-- a comment begins here that does not end
+abbrev pub OpenHere : List ℕ → Type 0
+OpenHere bytes = (rest : List ℕ) × (bytes ≡ 47 ∷ 42 ∷ rest) × (comment_len rest ≡ None)
+
 -- What is skipped is a gap, a token suits its file, the end is no byte's, and a comment that does not end begins here.
 pub data Found (kind : FileKind) (bytes : List ℕ) : Lead → Type 0 where
   skipped : {n : ℕ} → IsGap kind (take n bytes) → Found kind bytes (Skip n)
   taken : {n : ℕ} {t : TokenKind} → Suits t kind → Found kind bytes (Piece t n)
-  bad : {n : ℕ} {flaw : Flaw} → (flaw ≡ OpenComment → n ≡ 0) → Found kind bytes (Bad flaw n)
+  bad : {n : ℕ} {flaw : Flaw} → (flaw ≡ OpenComment → (n ≡ 0) × OpenHere bytes) → Found kind bytes (Bad flaw n)
 
 either_found : (kind : FileKind) (bytes : List ℕ) (b : Bool) (x y : Lead) → (b ≡ true → Found kind bytes x) → (b ≡ false → Found kind bytes y) → Found kind bytes (cond b x y)
 either_found kind bytes true x y f g = f refl
@@ -126,7 +130,7 @@ module _ (kind : FileKind) (bytes : List ℕ) where
   mark_found n None other f = f
 
   no_token_found : Found kind bytes no_token
-  no_token_found = bad (λ _. refl)
+  no_token_found = bad (λ e. absurd cc)
 
   c_mark_found : (xs : List ℕ) → Found kind bytes (c_mark xs)
   unfolding c_mark
@@ -139,24 +143,24 @@ module _ (kind : FileKind) (bytes : List ℕ) where
 
   literal_found : kind ≡ Source → (o : Option (LiteralType × ℕ)) (n : ℕ) → IfSome o (λ l. (l.1 ≤ greatest l.0) × (is_typed l.0 ≡ true)) → Found kind bytes (literal_or_bad o n)
   literal_found of (Some l) n h = taken (subst (λ (z : FileKind). HasTypeOf z l.0) (sym of) (typed_of l.0 h.1), h.0)
-  literal_found of None n h = bad (λ _. refl)
+  literal_found of None n h = bad (λ e. absurd cc)
 
   c_number_found : kind ≡ Source → (xs : List ℕ) → Found kind bytes (c_number xs)
   unfolding c_number
   c_number_found of xs =
       let n = run class.Word xs in
-      either_found kind bytes (begins "." (drop n xs)) (Bad BadNumber 0) (literal_or_bad (literal_of (take n xs)) n) (λ _. bad (λ _. refl)) (λ _. literal_found of (literal_of (take n xs)) n (literal_holds (take n xs)))
+      either_found kind bytes (begins "." (drop n xs)) (Bad BadNumber 0) (literal_or_bad (literal_of (take n xs)) n) (λ _. bad (λ e. absurd cc)) (λ _. literal_found of (literal_of (take n xs)) n (literal_holds (take n xs)))
 
   plain_number_found : (kind ≡ Source → ⊥) → (xs : List ℕ) → Found kind bytes (plain_number xs)
   unfolding plain_number
   plain_number_found other xs =
       let n = run class.Decimal xs in
       let value = number_in 10 (take n xs) in
-      either_found kind bytes (begins "." (drop n xs) || continues_word (char_at (drop n xs)) || nat_le (2 ^ 126) value) (Bad BadNumber 0) (Piece (k.Literal Untyped value) n) (λ _. bad (λ _. refl)) (λ e. taken (untyped_of kind other, small_value (begins "." (drop n xs) || continues_word (char_at (drop n xs))) value e))
+      either_found kind bytes (begins "." (drop n xs) || continues_word (char_at (drop n xs)) || nat_le (2 ^ 126) value) (Bad BadNumber 0) (Piece (k.Literal Untyped value) n) (λ _. bad (λ e. absurd cc)) (λ e. taken (untyped_of kind other, small_value (begins "." (drop n xs) || continues_word (char_at (drop n xs))) value e))
 
   constant_or_bad_found : kind ≡ Source → (o : Option (ℕ × ℕ)) (xs : List ℕ) → IsSmall o → Found kind bytes (constant_or_bad o xs)
-  constant_or_bad_found of (Some c) xs h = either_found kind bytes (goes_on (drop c.1 xs)) (Bad BadNumber 0) _ (λ _. bad (λ _. refl)) (λ _. taken (subst (λ (z : FileKind). HasTypeOf z Int) (sym of) tt, h))
-  constant_or_bad_found of None xs h = bad (λ _. refl)
+  constant_or_bad_found of (Some c) xs h = either_found kind bytes (goes_on (drop c.1 xs)) (Bad BadNumber 0) _ (λ _. bad (λ e. absurd cc)) (λ _. taken (subst (λ (z : FileKind). HasTypeOf z Int) (sym of) tt, h))
+  constant_or_bad_found of None xs h = bad (λ e. absurd cc)
 
   constant_found : kind ≡ Source → (xs : List ℕ) → Found kind bytes (constant xs)
   unfolding constant
@@ -164,7 +168,7 @@ module _ (kind : FileKind) (bytes : List ℕ) where
 
   string_or_bad_found : kind ≡ Source → (o : Option ℕ) → Found kind bytes (string_or_bad o)
   string_or_bad_found of (Some n) = taken of
-  string_or_bad_found of None = bad (λ _. refl)
+  string_or_bad_found of None = bad (λ e. absurd cc)
 
   string_found : kind ≡ Source → (xs : List ℕ) → Found kind bytes (string xs)
   unfolding string
@@ -279,7 +283,7 @@ comment_found kind bytes e =
   where
     by_end : (rest : List ℕ) (o : Option ℕ) → comment_len rest ≡ o → Found kind (47 ∷ 42 ∷ rest) (comment_or_bad kind o (47 ∷ 42 ∷ rest))
     by_end rest (Some n) e = comment_of_found kind (47 ∷ 42 ∷ rest) (n + 2) (comment_gap kind rest n e)
-    by_end rest None e = bad (λ _. refl)
+    by_end rest None e = bad (λ _. (refl, (rest, refl, e)))
 
 -- a marker, to the end of its line
 marker_of_line : (xs ys : List ℕ) → is_marker (xs ++ 10 ∷ ys) ≡ is_marker xs
@@ -345,15 +349,25 @@ module _ (kind : FileKind) (before : List ℕ) where
   skip_gap [] n e = let no : End ≡ Skip n = sym none_left ∙ e in absurd cc
   skip_gap (b ∷ rest) n e = skip_by (b ∷ rest) (front kind before (b ∷ rest)) n (found kind before b rest) e
 
-  open_by : (bytes : List ℕ) (l : Lead) (n : ℕ) → Found kind bytes l → l ≡ Bad OpenComment n → n ≡ 0
+  open_by : (bytes : List ℕ) (l : Lead) (n : ℕ) → Found kind bytes l → l ≡ Bad OpenComment n → (n ≡ 0) × OpenHere bytes
   open_by bytes End n f e = elim f [ ]
   open_by bytes (Skip m) n (skipped gap) e = absurd cc
   open_by bytes (Piece t m) n (taken h) e = absurd cc
-  open_by bytes (Bad flaw m) n (bad f) e = let of : flaw ≡ OpenComment = cc in let same : m ≡ n = cc in sym same ∙ f of
+  open_by bytes (Bad flaw m) n (bad f) e = let of : flaw ≡ OpenComment = cc in let same : m ≡ n = cc in (sym same ∙ (f of).0, (f of).1)
+
+  opened : (rest : List ℕ) (n : ℕ) → front kind before rest ≡ Bad OpenComment n → (n ≡ 0) × OpenHere rest
+  opened [] n e = let no : End ≡ Bad OpenComment n = sym none_left ∙ e in absurd cc
+  opened (b ∷ rest) n e = open_by (b ∷ rest) (front kind before (b ∷ rest)) n (found kind before b rest) e
 
   pub open_here : (rest : List ℕ) (n : ℕ) → front kind before rest ≡ Bad OpenComment n → n ≡ 0
-  open_here [] n e = let no : End ≡ Bad OpenComment n = sym none_left ∙ e in absurd cc
-  open_here (b ∷ rest) n e = open_by (b ∷ rest) (front kind before (b ∷ rest)) n (found kind before b rest) e
+  open_here rest n e = (opened rest n e).0
+
+  pub open_rest : (rest : List ℕ) (n : ℕ) → front kind before rest ≡ Bad OpenComment n → OpenHere rest
+  open_rest rest n e = (opened rest n e).1
+
+  pub open_front : (rest : List ℕ) → comment_len rest ≡ None → front kind before (47 ∷ 42 ∷ rest) ≡ Bad OpenComment 0
+  unfolding front comment
+  open_front rest e = ap (λ (o : Option ℕ). comment_or_bad kind o (47 ∷ 42 ∷ rest)) e
 
   suits_by : (bytes : List ℕ) (l : Lead) (t : TokenKind) (n : ℕ) → Found kind bytes l → l ≡ Piece t n → Suits t kind
   suits_by bytes End t n f e = elim f [ ]

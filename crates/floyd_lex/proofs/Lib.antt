@@ -4,9 +4,11 @@ pub mod LocalLemmas
 pub mod MoveLemmas
 pub mod NameLemmas
 pub mod NumberLemmas
+pub mod LexerLemmas
 pub mod LinesLemmas
 pub mod ListLemmas
 pub mod OneCut
+pub mod OpenLemmas
 pub mod OrderLemmas
 pub mod PackingLemmas
 pub mod SpotLemmas

@@ -1,9 +1,8 @@
 -- Lines and columns on the way through a file.
-use Rattle.std.proofs.Common.{◌≡◌, ℕ, ◌+◌, ◌-◌, ◌∙◌, ◌<◌, ◌≤◌, true, false, min, List, [], ◌∷◌, ◌++◌, length, map, take, drop, get_or, count_by, suc, zero, refl, ap, sym, subst, arith}
+use Rattle.std.proofs.Common.{◌≡◌, ℕ, ◌+◌, ◌-◌, ◌∙◌, ◌<◌, ◌≤◌, true, false, min, List, [], ◌∷◌, ◌++◌, length, map, take, get_or, count_by, refl, ap, sym, subst, arith}
 use Rattle.std.specs.List.{suffix_len}
-use Rattle.std.proofs.lemmas.List.{take_more, length-take, take-append-le, length-append}
+use Rattle.std.proofs.lemmas.List.{take-append-le, length-append}
 use Rattle.std.proofs.lemmas.List.Sums.{suffix_len-take_yes, suffix_len-take_no, count_by_more_yes, count_by_more_no}
-use Rattle.floyd_text.specs.declared.place.Place.{Place}
 use Rattle.floyd_text.specs.Place.{is_feed, is_other, place_at}
 use Rattle.floyd_lex.specs.declared.spot.Spot.{Spot}
 use Rattle.floyd_lex.specs.SpotClauses.{IsSpot}

@@ -4,6 +4,8 @@ pub mod CuttingClauses
 pub mod Front
 pub mod Keywords
 pub mod Laws
+pub mod LexerClauses
+pub mod Lexing
 pub mod Marks
 pub mod Numbers
 pub mod PackingClauses

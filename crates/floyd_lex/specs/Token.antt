@@ -31,6 +31,10 @@ empty_list file = record { file = file; items = [] }
 abbrev pub with_last : TokenList → Lexeme → TokenList
 with_last list x = record { file = list.file; items = list.items ++ x ∷ [] }
 
+-- the tokens from `from` on, those before `to`
+abbrev pub part_of : TokenList → ℕ → ℕ → TokenList
+part_of list from to = record { file = list.file; items = take (to - from) (drop from list.items) }
+
 -- a token as a grammar sees it, with its text
 pub record Token : Type 0 where
   pub kind : TokenKind

@@ -118,12 +118,7 @@ fn stand_before(flaw: Flaw, spot: Spot, n: usize) -> Stand
 }
 
 /// Puts the token of n bytes that begins there.
-fn push_at(
-    tokens: &mut Tokens,
-    token: TokenKind,
-    spot: Spot,
-    n: usize,
-) -> Result<(), AllocError>
+fn push_at(tokens: &mut Tokens, token: TokenKind, spot: Spot, n: usize) -> Result<(), AllocError>
     requires small { spot.at + n < 2 ^ 32 }
     requires begin { spot.begin ≤ spot.at }
     ensures ok { OnOk result (tokens.new ≡ with_last tokens.old record { kind = token; start = spot.at; end = spot.at + n; place = place_of_spot tokens.old.file spot }) }

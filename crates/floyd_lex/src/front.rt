@@ -108,7 +108,7 @@ fn comment_of(kind: FileKind, n: usize, bytes: &[u8]) -> Lead
 }
 
 /// How many bytes there are up to the first `*/`, with it.
-fn comment_len(bytes: &[u8]) -> Option<usize>
+pub fn comment_len(bytes: &[u8]) -> Option<usize>
     ensures value { result ≡ specs.comment_len bytes.now }
     ensures within { IfSome result (λ n. n ≤ length bytes.now) }
 {

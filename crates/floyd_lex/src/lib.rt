@@ -8,6 +8,7 @@ mod keywords;
 mod kinds;
 mod laws;
 mod lead;
+mod lexer;
 mod list;
 mod marks;
 mod numbers;
@@ -20,4 +21,5 @@ pub use kinds::{FileKind, Keyword, LiteralType, Punctuator, TokenKind};
 pub use laws::{
     has_one_cut, lines_stand_alone, texts_stand_in_order, texts_stand_on_lines, tokens_suit,
 };
+pub use lexer::{Cut, Lexed, Lexer, start};
 pub use list::Tokens;

@@ -1,5 +1,5 @@
 ghost use Rattle.std.specs.Prelude.{◌≡◌, ◌<◌, ◌≤◌, ◌-◌, ◌==◌, [], ◌++◌, length, take, drop, slice_get, option_map, IfOk, OnOk, OnErr, Some};
-ghost use Rattle.floyd_lex.specs.Token.{text_of, with_last, empty_list};
+ghost use Rattle.floyd_lex.specs.Token.{Lexeme, text_of, with_last, empty_list, part_of};
 ghost use Rattle.floyd_lex.specs.declared.list.Packed.{Packed};
 ghost use Rattle.floyd_lex.specs.PackingClauses.{kind_of, IsWithin, Grows};
 
@@ -107,6 +107,32 @@ impl Tokens {
         ensures { self.new ≡ record { file = self.old.file; items = take len self.old.items } }
     {
         self.packed.truncate(len);
+    }
+
+    /// The tokens from `from` on, those before `to`, of the same file.
+    pub fn part(&self, alloc: Global, from: usize, to: usize) -> Result<Tokens, AllocError>
+        requires order { from ≤ to }
+        requires within { to ≤ length self.now.items }
+        ensures { IfOk result (λ part. part ≡ part_of self.now from to) }
+    {
+        let mut part = Tokens::new(alloc, self.file);
+        let mut at = from;
+        'each: while at < to {
+            part.push_from(self, at)?;
+            at += 1;
+        }
+        Ok(part)
+    }
+
+    /// Puts the token at `at` of the same file at the end.
+    fn push_from(&mut self, other: &Tokens, at: usize) -> Result<(), AllocError>
+        requires at { at < length other.now.items }
+        requires file { self.old.file ≡ other.now.file }
+        ensures ok { OnOk result ((x : Lexeme) → slice_get other.now.items at ≡ Some x → self.new ≡ with_last self.old x) }
+    {
+        let p = &other.packed[at];
+        let kind = unpack(other.long.as_slice(), p);
+        self.push(kind, p.start, p.end, p.line, p.column)
     }
 
     pub fn file(&self) -> u32

@@ -3,8 +3,8 @@ ghost use Rattle.std.specs.Prelude.{◌<◌, ◌^◌, length};
 
 use floyd_cparse::parse;
 use floyd_cparse_trees::{BlockItem, CExpr, CStatement, CUnit, External};
-use floyd_lex::{FileKind, Tokens, tokens};
-use floyd_text::{Halt, Place, Refusal, Shown, place_of};
+use floyd_lex::{FileKind, Tokens, start, tokens};
+use floyd_text::{Halt, Place, Refusal, Shown, Taker, place_of};
 use std::alloc::{AllocError, Global};
 
 /// The number of each text's file.
@@ -88,11 +88,11 @@ fn found(alloc: Global, question: Question, bytes: &[u8]) -> Result<String, Halt
 {
     match question {
         Question::Cut(kind) => {
-            let list = tokens(alloc, kind, FILE, bytes)?;
+            let list = cut(alloc, kind, bytes)?;
             Ok(format!(in alloc; "{} tokens", list.len())?)
         }
         Question::Name(kind) => {
-            let list = tokens(alloc, kind, FILE, bytes)?;
+            let list = cut(alloc, kind, bytes)?;
             Ok(names(alloc, bytes, &list)?)
         }
         Question::Read => {
@@ -102,6 +102,21 @@ fn found(alloc: Global, question: Question, bytes: &[u8]) -> Result<String, Halt
         Question::Begin => begin(alloc, bytes),
         Question::Group => group(alloc, bytes),
         Question::Unknown => Ok("no question".to_string(alloc)?),
+    }
+}
+
+/// The tokens of the text, as they come in pieces of three bytes, taken as a part of themselves.
+fn cut(alloc: Global, kind: FileKind, bytes: &[u8]) -> Result<Tokens, Halt> {
+    let mut lexer = start(alloc, kind, FILE)?;
+    'each: for piece in bytes.chunks(3) {
+        lexer.take(piece)?;
+    }
+    let settled = lexer.settled().len();
+    let (_, cut) = lexer.finish()?.into_parts();
+    match cut.into_result() {
+        Ok(list) if settled <= list.len() => Ok(list.part(alloc, 0, list.len())?),
+        Ok(list) => Ok(list),
+        Err(refusal) => Err(Halt::Refused(refusal)),
     }
 }
 

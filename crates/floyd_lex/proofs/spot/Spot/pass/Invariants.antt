@@ -1,4 +1,4 @@
-use Rattle.std.proofs.Common.{◌≡◌, ◌+◌, ◌-◌, ◌≤◌, length}
+use Rattle.std.proofs.Common.{◌-◌, ◌≤◌, length}
 use Rattle.floyd_lex.specs.SpotClauses.{IsSpot}
 use Rattle.floyd_lex.proofs.spot.Spot.pass.Given as goal
 
