@@ -1,8 +1,12 @@
 pub mod AddressLemmas
+pub mod FieldLemmas
+pub mod LastLemmas
+pub mod LevelLemmas
 pub mod PathLemmas
 pub mod ProjectLemmas
 pub mod SortDepths
 pub mod SortLemmas
 pub mod SumLemmas
 pub mod TypeLemmas
+pub mod UpdateLemmas
 pub mod WrittenLemmas

@@ -12,11 +12,11 @@ use Rattle.floyd_tree_sorts.specs.Sorts.{list_sort, pair_sort}
 use Rattle.floyd_tree_values.specs.Defaults.{pair_sorts, type_sort, fields_sort, shape_sort, struct_sort, ctype_sort, value_sort}
 use Rattle.floyd_tree_values.proofs.SizedSorts.{sort_where_sized}
 
-list_some : (o : Option Sort) (s : Sort) → option_map list_sort o ≡ Some s → (a : Sort) × (o ≡ Some a) × (list_sort a ≡ s)
+pub list_some : (o : Option Sort) (s : Sort) → option_map list_sort o ≡ Some s → (a : Sort) × (o ≡ Some a) × (list_sort a ≡ s)
 list_some (Some a) s e = (a, refl, cc)
 list_some None s e = absurd cc
 
-pair_some : (o p : Option Sort) (s : Sort) → pair_sorts o p ≡ Some s → (a : Sort) × (b : Sort) × (o ≡ Some a) × (p ≡ Some b) × (pair_sort a b ≡ s)
+pub pair_some : (o p : Option Sort) (s : Sort) → pair_sorts o p ≡ Some s → (a : Sort) × (b : Sort) × (o ≡ Some a) × (p ≡ Some b) × (pair_sort a b ≡ s)
 pair_some (Some a) (Some b) s e = (a, b, refl, refl, cc)
 pair_some (Some a) None s e = absurd cc
 pair_some None p s e = absurd cc
@@ -33,7 +33,7 @@ module _ (of by : List ℕ → Option Sort) (keeps : (tag : List ℕ) (s : Sort)
   type_kept (c.Struct tag) s e = keeps tag s e
   type_kept (c.Function' shape ps p r) s e = e
 
-  fields_kept : (fields : List Field) (s : Sort) → fields_sort of fields ≡ Some s → fields_sort by fields ≡ Some s
+  pub fields_kept : (fields : List Field) (s : Sort) → fields_sort of fields ≡ Some s → fields_sort by fields ≡ Some s
   fields_kept [] s e = e
   fields_kept (f ∷ []) s e = type_kept f.ty s e
   fields_kept (f ∷ g ∷ more) s e =
@@ -44,7 +44,7 @@ module _ (of by : List ℕ → Option Sort) (keeps : (tag : List ℕ) (s : Sort)
   struct_kept (Some fields) s e = fields_kept fields s e
   struct_kept None s e = e
 
-one_more : (structs : Structs) (d : ℕ) (tag : List ℕ) (s : Sort) → struct_sort d structs tag ≡ Some s → struct_sort (suc d) structs tag ≡ Some s
+pub one_more : (structs : Structs) (d : ℕ) (tag : List ℕ) (s : Sort) → struct_sort d structs tag ≡ Some s → struct_sort (suc d) structs tag ≡ Some s
 one_more structs zero tag s e = absurd cc
 one_more structs (suc d) tag s e = struct_kept (struct_sort d structs) (struct_sort (suc d) structs) (one_more structs d) (fields_of structs tag) s e
 

@@ -6,4 +6,6 @@ pub mod NestedClauses
 pub mod Projections
 pub mod SortClauses
 pub mod Sums
+pub mod UpdateClauses
+pub mod Updates
 pub mod Written

@@ -18,7 +18,7 @@ use Rattle.floyd_fieldpath.specs.Addresses.{on_type, where_typed}
 use Rattle.floyd_fieldpath.specs.DefaultTerms.{default_term}
 use Rattle.floyd_fieldpath.specs.Nested.{path_illegal, type_after}
 use Rattle.floyd_fieldpath.specs.Sums.{two}
-use Rattle.floyd_fieldpath.specs.Written.{too_large, written, on_ok}
+use Rattle.floyd_fieldpath.specs.Written.{ill_sorted, written, on_ok}
 
 -- what stands at the head of a value
 abbrev pub is_default : Head → Bool
@@ -57,7 +57,7 @@ second_of v = or_written (kid_under is_pair 1 v) (one Snd v)
 
 -- the default of a type, which has a value sort
 abbrev pub default_with : Option Sort → SizedType → Result Plain No
-default_with None t = Err too_large
+default_with None t = Err ill_sorted
 default_with (Some s) t = written (default_term t s)
 
 abbrev pub default_of : Structs → SizedType → Result Plain No

@@ -4,7 +4,7 @@ ghost use Rattle.floyd_assert_cells.specs.Types.{dot_offset, size_by};
 ghost use Rattle.floyd_fieldpath.specs.Addresses.{address as address_lem, element_offset as element_offset_lem, number_or_zero as number_or_zero_lem, or_zero as or_zero_lem, path_sum as path_sum_lem, size_term as size_term_lem, step_sum as step_sum_lem, step_term as step_term_lem, with_term as with_term_lem};
 
 use crate::literals::literal;
-use crate::nested::{path_illegal, type_after, type_at};
+use crate::nested::{Passage, path_illegal, type_after, type_at};
 use crate::sums::{moved, plus, times};
 use floyd_ctypes::{CType, StructTable};
 use floyd_text::{Name, RuleStop, Steps};
@@ -49,7 +49,12 @@ fn path_sum<L: Ledger>(
         let Some(after) = type_after(alloc, structs, &inner, step, steps)? else {
             return Err(RuleStop::No(path_illegal()));
         };
-        let more = step_sum(alloc, structs, &inner, &after, step, &sum, steps)?;
+        let passage = Passage {
+            from: &inner,
+            to: &after,
+            step,
+        };
+        let more = step_sum(alloc, structs, passage, &sum, steps)?;
         sum = Some(more);
         inner = after;
     }
@@ -75,15 +80,13 @@ fn or_zero<L: Ledger>(
 fn step_sum<L: Ledger>(
     alloc: Global,
     structs: &StructTable,
-    t: &AType,
-    after: &AType,
-    step: &PathStep,
+    passage: Passage<'_>,
     sum: &Option<Term>,
     steps: &mut Steps<L>,
 ) -> Result<Term, RuleStop>
-    ensures exact { RuleGives (λ a. a) result (step_sum_lem structs.now t.now after.now step.now sum.now) }
+    ensures exact { RuleGives (λ a. a) result (step_sum_lem structs.now passage.entry.from.now passage.entry.to.now passage.entry.step.now sum.now) }
 {
-    let n = step_term(alloc, structs, t, after, step, steps)?;
+    let n = step_term(alloc, structs, passage, steps)?;
     with_term(alloc, sum, n, steps)
 }
 
@@ -102,23 +105,21 @@ fn with_term<L: Ledger>(
     }
 }
 
-/// What a step adds, behind which the object has the type `after`.
+/// What a step adds.
 fn step_term<L: Ledger>(
     alloc: Global,
     structs: &StructTable,
-    t: &AType,
-    after: &AType,
-    step: &PathStep,
+    passage: Passage<'_>,
     steps: &mut Steps<L>,
 ) -> Result<Term, RuleStop>
-    ensures exact { RuleGives (λ a. a) result (step_term_lem structs.now t.now after.now step.now) }
+    ensures exact { RuleGives (λ a. a) result (step_term_lem structs.now passage.entry.from.now passage.entry.to.now passage.entry.step.now) }
 {
-    match step {
+    match passage.step {
         PathStep::Field(name) => {
-            let offset = field_offset(structs, t.shape().get(), name);
+            let offset = field_offset(structs, passage.from.shape().get(), name);
             Ok(number_or_zero(alloc, offset, steps)?)
         }
-        PathStep::Subscript(i) => element_offset(alloc, structs, after, i, steps),
+        PathStep::Subscript(i) => element_offset(alloc, structs, passage.to, i, steps),
     }
 }
 

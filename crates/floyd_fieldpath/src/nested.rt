@@ -12,6 +12,14 @@ use std::alloc::{AllocError, Global};
 use std::marker::Brand;
 use std::sync::ledger::{Blank, Ledger};
 
+/// A step of a path, with the types before and behind it.
+#[derive(Clone, Copy)]
+pub(crate) struct Passage<'a> {
+    pub(crate) from: &'a AType,
+    pub(crate) to: &'a AType,
+    pub(crate) step: &'a PathStep,
+}
+
 /// The refusal of a path that has no type.
 pub(crate) fn path_illegal() -> No
     ensures { result ≡ path_illegal_lem }

@@ -4,11 +4,11 @@ ghost use Rattle.floyd_fieldpath.specs.Projections.{component as component_lem, 
 ghost use Rattle.floyd_fieldpath.specs.Written.{written as written_lem};
 
 use crate::defaults::default_term;
-use crate::nested::{path_illegal, type_after, type_at};
+use crate::nested::{Passage, path_illegal, type_after, type_at};
 use crate::sorts::value_sort;
 use crate::sums::two;
 use crate::views::{component_in, ints_in, is_default, longs_in};
-use crate::writing::{too_large, written};
+use crate::writing::{ill_sorted, too_large, written};
 use floyd_ctypes::{Field, StructTable};
 use floyd_text::{Name, RuleStop, Steps};
 use floyd_tree::{AType, Head, MakeStop, Operator, Path, PathStep, Shape, Term};
@@ -51,54 +51,67 @@ fn item_at<L: Ledger>(
         let Some(after) = type_after(alloc, structs, &inner, step, steps)? else {
             return Err(RuleStop::No(path_illegal()));
         };
-        let more = item(alloc, structs, &inner, &after, step, &value, steps)?;
+        let passage = Passage {
+            from: &inner,
+            to: &after,
+            step,
+        };
+        let more = item(alloc, structs, passage, &value, steps)?;
         value = more;
         inner = after;
     }
     Ok(value)
 }
 
-/// The item after a step, which has the type `after`.
+/// The item after a step.
 pub(crate) fn item<L: Ledger>(
     alloc: Global,
     structs: &StructTable,
-    t: &AType,
-    after: &AType,
-    step: &PathStep,
+    passage: Passage<'_>,
     v: &Term,
     steps: &mut Steps<L>,
 ) -> Result<Term, RuleStop>
-    ensures exact { RuleGives (λ u. u) result (item_lem structs.now t.now after.now step.now v.now) }
+    ensures exact { RuleGives (λ u. u) result (item_lem structs.now passage.entry.from.now passage.entry.to.now passage.entry.step.now v.now) }
 {
-    match step {
-        PathStep::Field(name) => {
-            field_item(alloc, structs, t.shape().get(), after, name, v, steps)
-        }
-        PathStep::Subscript(i) => element(alloc, structs, after, i, v, steps),
+    match passage.step {
+        PathStep::Field(name) => field_item(alloc, structs, passage, name, v, steps),
+        PathStep::Subscript(i) => element(alloc, structs, passage.to, i, v, steps),
     }
 }
 
-/// The field's value in a struct's.
+/// A field of that name and type among those of a struct.
+#[derive(Clone, Copy)]
+struct Sought<'a> {
+    fields: &'a [Field],
+    name: &'a Name,
+    ty: &'a AType,
+}
+
+/// The value of the field of that name in a struct's.
 #[tactic(auto, using(crate::proofs::ProjectLemmas::no_field_of_pointer, crate::proofs::ProjectLemmas::no_field_of_array, crate::proofs::ProjectLemmas::no_field_of_function))]
 fn field_item<L: Ledger>(
     alloc: Global,
     structs: &StructTable,
-    shape: &Shape,
-    after: &AType,
+    passage: Passage<'_>,
     name: &Name,
     v: &Term,
     steps: &mut Steps<L>,
 ) -> Result<Term, RuleStop>
-    ensures exact { RuleGives (λ u. u) result (field_item_lem structs.now shape.now after.now name.now v.now) }
+    ensures exact { RuleGives (λ u. u) result (field_item_lem structs.now passage.entry.from.now.shape passage.entry.to.now name.now v.now) }
 {
-    match shape {
+    match passage.from.shape().get() {
         Shape::Struct(tag) => {
             if is_default(v) {
-                return default_of(alloc, structs, after, steps);
+                return default_of(alloc, structs, passage.to, steps);
             }
             match structs.fields_of(tag) {
                 Some(fields) => {
-                    component(alloc, structs, after, fields.as_slice(), name, v, steps)
+                    let sought = Sought {
+                        fields: fields.as_slice(),
+                        name,
+                        ty: passage.to,
+                    };
+                    component(alloc, structs, sought, v, steps)
                 }
                 None => Err(RuleStop::No(path_illegal())),
             }
@@ -116,21 +129,20 @@ fn field_item<L: Ledger>(
 fn component<L: Ledger>(
     alloc: Global,
     structs: &StructTable,
-    after: &AType,
-    fields: &[Field],
-    name: &Name,
+    sought: Sought<'_>,
     v: &Term,
     steps: &mut Steps<L>,
 ) -> Result<Term, RuleStop>
-    ensures exact { RuleGives (λ u. u) result (component_lem structs.now after.now fields.now name.now v.now) }
+    ensures exact { RuleGives (λ u. u) result (component_lem structs.now sought.entry.ty.now sought.entry.fields.now sought.entry.name.now v.now) }
 {
+    let Sought { fields, name, ty } = sought;
     let mut value = v.share()?;
     'fields: for at in 0..fields.len() {
         if at + 1 == fields.len() {
             return Ok(value);
         }
         if is_default(&value) {
-            return default_of(alloc, structs, after, steps);
+            return default_of(alloc, structs, ty, steps);
         }
         let field = &fields[at];
         if name == &field.name {
@@ -207,6 +219,7 @@ fn value_at<L: Ledger>(
 }
 
 /// The default of a type that has a value sort.
+#[tactic(auto, using(crate::proofs::WrittenLemmas::made_is, crate::proofs::WrittenLemmas::ill_is, crate::proofs::WrittenLemmas::large_is))]
 pub(crate) fn default_of<L: Ledger>(
     alloc: Global,
     structs: &StructTable,
@@ -216,12 +229,12 @@ pub(crate) fn default_of<L: Ledger>(
     ensures exact { RuleGives (λ u. u) result (default_of_lem structs.now t.now) }
 {
     let Some(sort) = value_sort(alloc, structs, t.shape().get())? else {
-        return Err(RuleStop::No(too_large()));
+        return Err(RuleStop::No(ill_sorted()));
     };
     match default_term(alloc, t, &sort, steps) {
         Ok(term) => Ok(term),
         Err(MakeStop::Memory) => Err(RuleStop::Memory),
-        Err(MakeStop::IllSorted) => Err(RuleStop::No(too_large())),
+        Err(MakeStop::IllSorted) => Err(RuleStop::No(ill_sorted())),
         Err(MakeStop::TooLarge) => Err(RuleStop::No(too_large())),
     }
 }

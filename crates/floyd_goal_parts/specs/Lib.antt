@@ -1,0 +1,4 @@
+-- Definitions that contracts cite.
+pub mod Rows
+pub mod Sources
+pub mod Writing

@@ -1,0 +1,5 @@
+pub mod TreeLemmas
+pub mod RowLemmas
+pub mod Heights
+pub mod OrderLemmas
+pub mod StrongLemmas
