@@ -1,3 +1,4 @@
+pub mod AlikeLaws
 pub mod Examples
 pub mod Free
 pub mod Inversions

@@ -15,25 +15,19 @@ use Rattle.floyd_assert_trees.specs.declared.assertion.Local.{Local}
 use Rattle.floyd_assert_trees.specs.declared.binder.Binder.{Binder}
 use Rattle.floyd_assert_trees.specs.declared.sep.Sep.{Sep}
 use Rattle.floyd_assert_trees.specs.declared.spec.Funspec.{Funspec}
-use Rattle.floyd_assert_meaning.specs.Settings.{Setting, AreFor, bare_env, binder_sorts, with_data}
+use Rattle.floyd_assert_meaning.specs.Settings.{Setting, AreFor, bare_env, binder_sorts, with_data, with_each}
 use Rattle.floyd_assert_meaning.specs.Parts.{PartHolds, PartsHold}
 use Rattle.floyd_assert_meaning.specs.Assertions.{Holds, LocalsHold}
 use Rattle.floyd_assert_meaning.specs.Specifications.{Pre, Post, PostHolds, Returns}
 use Rattle.floyd_assert_meaning.specs.Same.{Pairwise, SamePart, SameLocal, SameAssertion, SameOption, SameFunspec, with_binders, withs}
 use Rattle.floyd_assert_meaning.proofs.Related.{terms_go, part_goes, parts_go, flipped, Back, part_back, parts_back}
 
--- the data of variables, with these for some
-abbrev pub puts_all : (List ℕ → Datum) → List Binder → List Datum → List ℕ → Datum
-puts_all f [] ds = f
-puts_all f (b ∷ bs) [] = f
-puts_all f (b ∷ bs) (d ∷ ds) = puts_all (put f b.name d) bs ds
-
-pub with_data_is : (env : Env) (f : List ℕ → Datum) (bs : List Binder) (ds : List Datum) → with_data (giving env f) bs ds ≡ giving env (puts_all f bs ds)
+pub with_data_is : (env : Env) (f : List ℕ → Datum) (bs : List Binder) (ds : List Datum) → with_data (giving env f) bs ds ≡ giving env (with_each f bs ds)
 with_data_is env f [] ds = refl
 with_data_is env f (b ∷ bs) [] = refl
 with_data_is env f (b ∷ bs) (d ∷ ds) = with_data_is env (put f b.name d) bs ds
 
-pub agree_all : (around : Binders) (f g : List ℕ → Datum) → Agree around f g → (bs cs : List Binder) (ds : List Datum) → binder_sorts bs ≡ binder_sorts cs → AreFor bs ds → Agree (with_binders around bs cs) (puts_all f bs ds) (puts_all g cs ds)
+pub agree_all : (around : Binders) (f g : List ℕ → Datum) → Agree around f g → (bs cs : List Binder) (ds : List Datum) → binder_sorts bs ≡ binder_sorts cs → AreFor bs ds → Agree (with_binders around bs cs) (with_each f bs ds) (with_each g cs ds)
 agree_all around f g k [] [] ds e s = k
 agree_all around f g k [] (c ∷ cs) ds e s = absurd cc
 agree_all around f g k (b ∷ bs) [] ds e s = absurd cc
@@ -93,15 +87,15 @@ module _ (S : Setting) (env : Env) (around : Binders) (f g : List ℕ → Datum)
   same_value (Some t) (Some u) v e = (forth t u e (Val v), back u t e (Val v))
 
 -- data of the sorts of the one are data of those of the other
-other_sorts : (bs cs : List Binder) (ds : List Datum) → binder_sorts bs ≡ binder_sorts cs → AreFor bs ds → AreFor cs ds
+pub other_sorts : (bs cs : List Binder) (ds : List Datum) → binder_sorts bs ≡ binder_sorts cs → AreFor bs ds → AreFor cs ds
 other_sorts bs cs ds e s = subst (λ sorts. HaveSorts sorts ds) e s
 
 -- across the two environments with data for existentials
 module _ (env : Env) (f : List ℕ → Datum) (bs : List Binder) (ds : List Datum) where
-  into : (P : Env → Type 0) → P (with_data (giving env f) bs ds) → P (giving env (puts_all f bs ds))
+  pub into : (P : Env → Type 0) → P (with_data (giving env f) bs ds) → P (giving env (with_each f bs ds))
   into P x = subst P (with_data_is env f bs ds) x
 
-  out_of : (P : Env → Type 0) → P (giving env (puts_all f bs ds)) → P (with_data (giving env f) bs ds)
+  pub out_of : (P : Env → Type 0) → P (giving env (with_each f bs ds)) → P (with_data (giving env f) bs ds)
   out_of P x = subst P (sym (with_data_is env f bs ds)) x
 
 module _ (S : Setting) (env : Env) where
@@ -109,8 +103,8 @@ module _ (S : Setting) (env : Env) where
   same_assertion around f g k a b temps h e = (
     λ x.
         let ds = x.witnesses in
-        let in_a : (P : Env → Type 0) → P (with_data (giving env f) a.existentials ds) → P (giving env (puts_all f a.existentials ds)) = into env f a.existentials ds in
-        let out_b : (P : Env → Type 0) → P (giving env (puts_all g b.existentials ds)) → P (with_data (giving env g) b.existentials ds) = out_of env g b.existentials ds in
+        let in_a : (P : Env → Type 0) → P (with_data (giving env f) a.existentials ds) → P (giving env (with_each f a.existentials ds)) = into env f a.existentials ds in
+        let out_b : (P : Env → Type 0) → P (giving env (with_each g b.existentials ds)) → P (with_data (giving env g) b.existentials ds) = out_of env g b.existentials ds in
         let l = agree_all around f g k a.existentials b.existentials ds e.sorts x.sorted in
         record {
           witnesses = ds;
@@ -121,8 +115,8 @@ module _ (S : Setting) (env : Env) where
         },
     λ x.
         let ds = x.witnesses in
-        let in_b : (P : Env → Type 0) → P (with_data (giving env g) b.existentials ds) → P (giving env (puts_all g b.existentials ds)) = into env g b.existentials ds in
-        let out_a : (P : Env → Type 0) → P (giving env (puts_all f a.existentials ds)) → P (with_data (giving env f) a.existentials ds) = out_of env f a.existentials ds in
+        let in_b : (P : Env → Type 0) → P (with_data (giving env g) b.existentials ds) → P (giving env (with_each g b.existentials ds)) = into env g b.existentials ds in
+        let out_a : (P : Env → Type 0) → P (giving env (with_each f a.existentials ds)) → P (with_data (giving env f) a.existentials ds) = out_of env f a.existentials ds in
         let s = other_sorts b.existentials a.existentials ds (sym e.sorts) x.sorted in
         let l = agree_all around f g k a.existentials b.existentials ds e.sorts s in
         record {
@@ -147,19 +141,19 @@ abbrev bare : Setting → List ℕ → Datum
 bare S = (bare_env S).variables
 
 module _ (S : Setting) (s t : Funspec) (ds : List Datum) (e : SameFunspec s t) where
-  agree_withs : AreFor s.with ds → Agree (withs s t) (puts_all (bare S) s.with ds) (puts_all (bare S) t.with ds)
+  agree_withs : AreFor s.with ds → Agree (withs s t) (with_each (bare S) s.with ds) (with_each (bare S) t.with ds)
   agree_withs k = agree_all [] (bare S) (bare S) (same_free (bare S)) s.with t.with ds e.with_sorts k
 
-  into_s : (P : Env → Type 0) → P (with_data (bare_env S) s.with ds) → P (giving (bare_env S) (puts_all (bare S) s.with ds))
+  into_s : (P : Env → Type 0) → P (with_data (bare_env S) s.with ds) → P (giving (bare_env S) (with_each (bare S) s.with ds))
   into_s = into (bare_env S) (bare S) s.with ds
 
-  into_t : (P : Env → Type 0) → P (with_data (bare_env S) t.with ds) → P (giving (bare_env S) (puts_all (bare S) t.with ds))
+  into_t : (P : Env → Type 0) → P (with_data (bare_env S) t.with ds) → P (giving (bare_env S) (with_each (bare S) t.with ds))
   into_t = into (bare_env S) (bare S) t.with ds
 
-  out_s : (P : Env → Type 0) → P (giving (bare_env S) (puts_all (bare S) s.with ds)) → P (with_data (bare_env S) s.with ds)
+  out_s : (P : Env → Type 0) → P (giving (bare_env S) (with_each (bare S) s.with ds)) → P (with_data (bare_env S) s.with ds)
   out_s = out_of (bare_env S) (bare S) s.with ds
 
-  out_t : (P : Env → Type 0) → P (giving (bare_env S) (puts_all (bare S) t.with ds)) → P (with_data (bare_env S) t.with ds)
+  out_t : (P : Env → Type 0) → P (giving (bare_env S) (with_each (bare S) t.with ds)) → P (with_data (bare_env S) t.with ds)
   out_t = out_of (bare_env S) (bare S) t.with ds
 
   pub same_pre : (args : List Value) (h : Heaplet) → Pre S s ds args h ↔ Pre S t ds args h
@@ -187,8 +181,8 @@ module _ (S : Setting) (s t : Funspec) (ds : List Datum) (e : SameFunspec s t) w
   post_holds f g k v h = (
     λ x.
         let ws = x.witnesses in
-        let in_a : (P : Env → Type 0) → P (with_data (giving (bare_env S) f) s.post.existentials ws) → P (giving (bare_env S) (puts_all f s.post.existentials ws)) = into (bare_env S) f s.post.existentials ws in
-        let out_b : (P : Env → Type 0) → P (giving (bare_env S) (puts_all g t.post.existentials ws)) → P (with_data (giving (bare_env S) g) t.post.existentials ws) = out_of (bare_env S) g t.post.existentials ws in
+        let in_a : (P : Env → Type 0) → P (with_data (giving (bare_env S) f) s.post.existentials ws) → P (giving (bare_env S) (with_each f s.post.existentials ws)) = into (bare_env S) f s.post.existentials ws in
+        let out_b : (P : Env → Type 0) → P (giving (bare_env S) (with_each g t.post.existentials ws)) → P (with_data (giving (bare_env S) g) t.post.existentials ws) = out_of (bare_env S) g t.post.existentials ws in
         let l = agree_all (withs s t) f g k s.post.existentials t.post.existentials ws e.post_sorts x.sorted in
         record {
           witnesses = ws;
@@ -199,8 +193,8 @@ module _ (S : Setting) (s t : Funspec) (ds : List Datum) (e : SameFunspec s t) w
         },
     λ x.
         let ws = x.witnesses in
-        let in_b : (P : Env → Type 0) → P (with_data (giving (bare_env S) g) t.post.existentials ws) → P (giving (bare_env S) (puts_all g t.post.existentials ws)) = into (bare_env S) g t.post.existentials ws in
-        let out_a : (P : Env → Type 0) → P (giving (bare_env S) (puts_all f s.post.existentials ws)) → P (with_data (giving (bare_env S) f) s.post.existentials ws) = out_of (bare_env S) f s.post.existentials ws in
+        let in_b : (P : Env → Type 0) → P (with_data (giving (bare_env S) g) t.post.existentials ws) → P (giving (bare_env S) (with_each g t.post.existentials ws)) = into (bare_env S) g t.post.existentials ws in
+        let out_a : (P : Env → Type 0) → P (giving (bare_env S) (with_each f s.post.existentials ws)) → P (with_data (giving (bare_env S) f) s.post.existentials ws) = out_of (bare_env S) f s.post.existentials ws in
         let k' = other_sorts t.post.existentials s.post.existentials ws (sym e.post_sorts) x.sorted in
         let l = agree_all (withs s t) f g k s.post.existentials t.post.existentials ws e.post_sorts k' in
         record {
@@ -215,7 +209,7 @@ module _ (S : Setting) (s t : Funspec) (ds : List Datum) (e : SameFunspec s t) w
   pub same_post : (v : Value) (h : Heaplet) → AreFor s.with ds → Post S s ds v h ↔ Post S t ds v h
   same_post v h k =
       let l = agree_withs k in
-      let both = post_holds (puts_all (bare S) s.with ds) (puts_all (bare S) t.with ds) l v h in (
+      let both = post_holds (with_each (bare S) s.with ds) (with_each (bare S) t.with ds) l v h in (
         λ x. out_t (λ y. PostHolds S y t.post v h) (both.0 (into_s (λ y. PostHolds S y s.post v h) x)),
         λ x. out_s (λ y. PostHolds S y s.post v h) (both.1 (into_t (λ y. PostHolds S y t.post v h) x)),
       )

@@ -1,4 +1,5 @@
 -- Definitions that contracts cite.
+pub mod Alike
 pub mod Assertions
 pub mod Examples
 pub mod Laws

@@ -81,7 +81,7 @@ withs s t = with_binders [] s.with t.with
 abbrev pub posts : Funspec → Funspec → Binders
 posts s t = with_binders (withs s t) s.post.existentials t.post.existentials
 
--- both carry the name of one SPEC, or of none
+-- Both carry the name of one SPEC, or of none. GLOBALS is not compared.
 pub record SameFunspec (s t : Funspec) : Type 0 where
   pub name : s.name ≡ t.name
   pub with_sorts : binder_sorts s.with ≡ binder_sorts t.with
@@ -89,7 +89,6 @@ pub record SameFunspec (s t : Funspec) : Type 0 where
   pub result : SameType (withs s t) s.result t.result
   pub pre_props : Pairwise (SameUnder (withs s t)) s.pre.props t.pre.props
   pub pre_params : Pairwise (SameTerm (withs s t)) s.pre.params t.pre.params
-  pub globals : s.pre.globals ≡ t.pre.globals
   pub pre_parts : Pairwise (SamePart (withs s t)) s.pre.parts t.pre.parts
   pub post_sorts : binder_sorts s.post.existentials ≡ binder_sorts t.post.existentials
   pub post_props : Pairwise (SameUnder (posts s t)) s.post.props t.post.props

@@ -1,5 +1,5 @@
 -- What assertions speak about beside data, temporaries and memory.
-use Rattle.std.specs.Prelude.{ℕ, Bool, List, [], ◌∷◌, map, pos}
+use Rattle.std.specs.Prelude.{ℕ, Bool, List, [], ◌∷◌, map, pos, if◌then◌else◌, bytes_eq}
 use Rattle.floyd_int.specs.declared.kinds.Value.{Value}
 use Rattle.floyd_tree_sorts.specs.declared.sorts.Sort.{Sort}
 use Rattle.floyd_tree_values.specs.BuiltIns.{Env}
@@ -34,6 +34,12 @@ abbrev pub with_data : Env → List Binder → List Datum → Env
 with_data env [] ds = env
 with_data env (b ∷ binders) [] = env
 with_data env (b ∷ binders) (d ∷ ds) = with_data (with_datum env b.name d) binders ds
+
+-- data for variables, with these for some of them, one by one
+abbrev pub with_each : (List ℕ → Datum) → List Binder → List Datum → List ℕ → Datum
+with_each f [] ds = f
+with_each f (b ∷ binders) [] = f
+with_each f (b ∷ binders) (d ∷ ds) = with_each (λ y. if bytes_eq y b.name then d else f y) binders ds
 
 -- no variable, and no local variable of a function: what stands in a specification file mentions none
 abbrev pub bare_env : Setting → Env

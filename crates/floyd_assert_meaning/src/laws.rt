@@ -1,3 +1,4 @@
+ghost use Rattle.floyd_assert_meaning.specs.Alike as alike;
 ghost use Rattle.floyd_assert_meaning.specs.Laws as laws;
 ghost use Rattle.floyd_assert_meaning.specs.Examples as examples;
 
@@ -34,4 +35,11 @@ pub fn what_is_looked_at()
     ensures terms { laws.TermsLookAtVariables }
     ensures formulas { laws.FormulasLookAtFree }
     ensures parts { laws.PartsLookAtTerms }
+{}
+
+/// Assertions that say the same one by one, each with its own data for variables, hold of the same temporaries and memory.
+pub fn say_alike()
+    ensures assertions { alike.AlikeHoldAlike }
+    ensures bodies { alike.AlikeBodiesHoldAlike }
+    ensures postconditions { alike.AlikePostsHoldAlike }
 {}

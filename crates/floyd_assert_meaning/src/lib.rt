@@ -4,5 +4,6 @@
 mod laws;
 
 pub use laws::{
-    equal_up_to_names, parts_of_assertions, sums_of_parts, what_is_looked_at, worked_examples,
+    equal_up_to_names, parts_of_assertions, say_alike, sums_of_parts, what_is_looked_at,
+    worked_examples,
 };

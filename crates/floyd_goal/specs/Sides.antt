@@ -5,15 +5,9 @@ use Rattle.floyd_tree.specs.Formulas.{PlainFormula}
 use Rattle.floyd_tree.specs.MadeFormulas.{formula_fits}
 use Rattle.floyd_goal_formulas.specs.Keeping.{Kept, conjunction, too_large}
 use Rattle.floyd_goal_trees.specs.Contexts.{after_command}
+pub use Rattle.floyd_goal_trees.specs.Contexts.{context_of}
 use Rattle.floyd_goal_trees.specs.declared.context.Context.{Context}
-use Rattle.floyd_goal_trees.specs.declared.goal.Goal.{Goal}
-use Rattle.floyd_goal_trees.specs.declared.goal.Goal.TheVariants as g
 use Rattle.floyd_goal.specs.declared.side_goals.Sides.{Sides}
-
-abbrev pub context_of : Goal → Context
-context_of (g.Run run) = run.context
-context_of (g.Entail entail) = entail.context
-context_of (g.Pure pure) = pure.context
 
 -- the goal, where it is within the limits
 abbrev pub side_goal : Context → List PlainFormula → Option PlainFormula → Result Sides No

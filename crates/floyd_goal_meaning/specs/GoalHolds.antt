@@ -1,5 +1,5 @@
 -- When a goal of a proof holds, for n steps of the machine.
-use Rattle.std.specs.Prelude.{◌≡◌, ℕ, true, List, [], ◌∷◌, map, Some, bytes_eq}
+use Rattle.std.specs.Prelude.{◌≡◌, ℕ, true, List, [], ◌∷◌, Some, bytes_eq}
 use Rattle.std.specs.Map.{lookup}
 use Rattle.floyd_int.specs.declared.kinds.Value.{Value}
 use Rattle.floyd_int.specs.declared.kinds.Value.TheVariants.{Vundef}
@@ -13,10 +13,9 @@ use Rattle.floyd_clight_runs.specs.Calls.{AreBlocksOf, AreDistinct, KeepsBelow, 
 use Rattle.floyd_clight_runs.specs.Safe.{Exits}
 use Rattle.floyd_tree_values.specs.BuiltIns.{Env}
 use Rattle.floyd_tree_values.specs.Data.{Datum}
-use Rattle.floyd_tree_values.specs.Rules.{Scope, Suits}
+use Rattle.floyd_tree_values.specs.Rules.{Suits}
 use Rattle.floyd_truth.specs.Truth.{Truth, AllTrue}
 use Rattle.floyd_assert_trees.specs.declared.assertion.Assertion.{Assertion}
-use Rattle.floyd_assert_trees.specs.declared.binder.Binder.{Binder}
 use Rattle.floyd_assert_trees.specs.declared.items.Defs.{Defs}
 use Rattle.floyd_assert_trees.specs.declared.items.Lemma.{Lemma}
 use Rattle.floyd_assert_trees.specs.declared.spec.Postcondition.{Postcondition}
@@ -24,6 +23,7 @@ use Rattle.floyd_assert_trees.specs.declared.spec.SpecTable.{SpecTable}
 use Rattle.floyd_assert_meaning.specs.Settings.{Setting, AreFor}
 use Rattle.floyd_assert_meaning.specs.Assertions.{Holds, LemmaHoldsFor, LemmaIsTrue}
 use Rattle.floyd_assert_meaning.specs.Specifications.{PostHolds}
+use Rattle.floyd_goal_trees.specs.Contexts.{context_of, scope_of}
 use Rattle.floyd_goal_trees.specs.declared.context.Context.{Context}
 use Rattle.floyd_goal_trees.specs.declared.context.Mark.{Mark}
 use Rattle.floyd_goal_trees.specs.declared.context.Mark.TheVariants as m
@@ -56,10 +56,6 @@ abbrev pub MarkHolds : Setting → Defs → Env → Mark → Type 0
 MarkHolds S defs env m.Plain = Unit {0}
 MarkHolds S defs env (m.Start name) = Unit {0}
 MarkHolds S defs env (m.Induction name place names) = (l : Lemma) → lookup (bytes_eq name) defs.lemmas ≡ Some l → LemmaHoldsAtEach S l place env names
-
--- a context's variables with their sorts
-abbrev pub scope_of : Context → Scope
-scope_of context = map (λ (b : Binder). (b.name, b.sort)) context.variables
 
 -- An environment that gives each variable of a context a datum of its sort, such that the hypotheses are true, and each name
 -- of the file its block. The blocks of local variables are any.
@@ -109,21 +105,28 @@ goal_exits S env exits (Broke act) h = Leaves S env exits.ret exits.brk act h
 goal_exits S env exits (Continued act) h = Leaves S env exits.ret exits.cont act h
 goal_exits S env exits (Returned v) h = MayReturn S env exits.ret v h
 
--- The goal holds in a program, with further external functions, in blocks for its names. A run goal: from each activation
--- that meets the source the statements are safe for n steps and leave by an exit only where that is met, if the calls in
--- them keep the specifications that the module may use for fewer steps.
-abbrev pub HoldsIn : Linked → List Further → Places → Defs → SpecTable → ℕ → Goal → Type 0
-HoldsIn L more place defs specs n (Run run) =
-    (env : Env) → Given (setting L more place) defs run.context env → KeepsBelow (world L more place) (sight L more place specs) n
+-- What a goal says of an environment, in a program, with further external functions, in blocks for its names. A run goal:
+-- from each activation that meets the source the statements are safe for n steps and leave by an exit only where that is
+-- met, if the calls in them keep the specifications that the module may use for fewer steps.
+abbrev pub HoldsUnder : Linked → List Further → Places → SpecTable → ℕ → Env → Goal → Type 0
+HoldsUnder L more place specs n env (Run run) =
+    KeepsBelow (world L more place) (sight L more place specs) n
     → (act : Act) (h : Heaplet) → Stands (setting L more place) env run.exits.ret run.source act h
     → SafeAll (world L more place) n run.rest (goal_exits (setting L more place) env run.exits) act h
-HoldsIn L more place defs specs n (Entail entail) =
-    (env : Env) → Given (setting L more place) defs entail.context env → (temps : Temps) (h : Heaplet)
-    → Holds (setting L more place) env entail.source temps h → Holds (setting L more place) env entail.target temps h
-HoldsIn L more place defs specs n (Pure pure) =
-    (env : Env) → Given (setting L more place) defs pure.context env → Truth (setting L more place).defs (setting L more place).has_spec env pure.target
+HoldsUnder L more place specs n env (Entail entail) =
+    (temps : Temps) (h : Heaplet) → Holds (setting L more place) env entail.source temps h → Holds (setting L more place) env entail.target temps h
+HoldsUnder L more place specs n env (Pure pure) = Truth (setting L more place).defs (setting L more place).has_spec env pure.target
 
--- The goal holds for n steps in every linked program that has what its module's proofs stand on, whatever further external
--- functions there are, where the lemmas that are proved are true.
+-- The goal holds there: under each environment that is given for its context.
+abbrev pub HoldsIn : Linked → List Further → Places → Defs → SpecTable → ℕ → Goal → Type 0
+HoldsIn L more place defs specs n goal = (env : Env) → Given (setting L more place) defs (context_of goal) env → HoldsUnder L more place specs n env goal
+
+-- P of every linked program that has what a module's proofs stand on, whatever further external functions there are, in
+-- blocks apart, where the lemmas that are proved are true
+abbrev pub InEach : Defs → SpecTable → (Linked → List Further → Places → Type 0) → Type 0
+InEach defs specs P =
+    (L : Linked) (more : List Further) (place : Places) → Has L defs specs → AreApart L more place → LemmasAreTrue (setting L more place) defs → P L more place
+
+-- The goal holds for n steps in every such program.
 pub record HoldsFor (defs : Defs) (specs : SpecTable) (n : ℕ) (goal : Goal) : Type 0 where
-  pub in_each : (L : Linked) (more : List Further) (place : Places) → Has L defs specs → AreApart L more place → LemmasAreTrue (setting L more place) defs → HoldsIn L more place defs specs n goal
+  pub in_each : InEach defs specs (λ L more place. HoldsIn L more place defs specs n goal)

@@ -1,0 +1,4 @@
+-- Definitions that contracts cite.
+pub mod Bare
+pub mod Free
+pub mod InChanged

@@ -1,0 +1,2 @@
+-- Lemmas on new variables of goals.
+pub mod NewNames
