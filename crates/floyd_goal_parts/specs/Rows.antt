@@ -12,27 +12,15 @@ use Rattle.floyd_goal_trees.specs.declared.goal.Goal.TheVariants as g
 use Rattle.floyd_goal_trees.specs.declared.goal.Pure.{Pure}
 use Rattle.floyd_goal.specs.declared.side_goals.Sides.{Sides}
 use Rattle.floyd_goal.specs.Goals.{enriched}
+pub use Rattle.floyd_goal.specs.Rows.{Answer, Unless, after_side}
 use Rattle.floyd_goal.specs.Sides.{Side, context_of}
 use Rattle.floyd_goal_parts.specs.declared.placing.Plan.{Plan}
 use Rattle.floyd_goal_parts.specs.Sources.{from_source, in_place, part_of, with_parts}
-
-abbrev pub Answer : Type 0
-Answer = Result (List Goal) No
-
--- a refusal where it is met, else what comes behind it
-abbrev pub Unless : Bool → No → (Answer → Type 0) → Answer → Type 0
-Unless true why Next answer = answer ≡ Err why
-Unless false why Next answer = Next answer
 
 -- what was found, or made, goes on, and a refusal is the answer
 abbrev pub OfResult : {A : Type 0} → Result A No → (A → Answer → Type 0) → Answer → Type 0
 OfResult (Ok a) Next answer = Next a answer
 OfResult (Err why) Next answer = answer ≡ Err why
-
--- the goal of the side formulas, if there is one, before the others
-abbrev pub after_side : Option Pure → List Goal → List Goal
-after_side None goals = goals
-after_side (Some pure) goals = g.Pure pure ∷ goals
 
 -- the goals behind it, where these side formulas were kept
 abbrev pub after_sides : (List PlainFormula → List Goal) → Result Sides No → Answer

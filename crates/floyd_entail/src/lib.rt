@@ -1,0 +1,8 @@
+//! The rules of entailments: what becomes of a part of a goal's source.
+#![tactic(auto)]
+
+mod reroot;
+mod weaken;
+
+pub use reroot::do_reroot;
+pub use weaken::do_weaken;
