@@ -1,2 +1,0 @@
-pub mod ShiftLemmas
-pub mod SmallLemmas
