@@ -1,7 +1,7 @@
 ghost use Rattle.std.specs.Prelude.{◌≡◌};
 ghost use Rattle.floyd_entail.specs.Weaken.{Row, default_at as default_at_lem, weakened as weakened_lem, with_value as with_value_lem};
 ghost use Rattle.floyd_fieldpath.specs.Projections.{default_of as default_of_lem};
-ghost use Rattle.floyd_fieldpath.specs.Written.{on_ok};
+ghost use Rattle.floyd_fieldpath.specs.Written.{ill_sorted as ill_sorted_lem, on_ok};
 ghost use Rattle.floyd_goal.specs.Answers.{IsAnswer};
 ghost use Rattle.floyd_text.specs.Gives.{RuleGives};
 
@@ -11,12 +11,23 @@ use floyd_fieldpath::{default_term, nested_type, value_sort};
 use floyd_goal_parts::{
     Args, Goal, GoalList, part_number, part_of, put_in_place, too_large, wrong_goal,
 };
-use floyd_text::{RuleStop, Steps};
+use floyd_text::{Code, No, RuleStop, Shown, Steps};
 use floyd_tree::{AType, MakeStop, Term};
 use std::alloc::Global;
 use std::sync::ledger::Ledger;
 
+/// The refusal of a type that has no default, which no part has.
+fn ill_sorted() -> No
+    ensures { result ≡ ill_sorted_lem }
+{
+    No {
+        code: Code::IllSorted,
+        shown: Shown::Nothing,
+    }
+}
+
 /// The default of a type.
+#[tactic(auto, using(floyd_fieldpath::proofs::WrittenLemmas::made_is, floyd_fieldpath::proofs::WrittenLemmas::ill_is, floyd_fieldpath::proofs::WrittenLemmas::large_is))]
 fn default_of<L: Ledger>(
     alloc: Global,
     structs: &StructTable,
@@ -26,12 +37,12 @@ fn default_of<L: Ledger>(
     ensures exact { RuleGives (λ v. v) result (default_of_lem structs.now t.now) }
 {
     let Some(sort) = value_sort(alloc, structs, t.shape().get())? else {
-        return Err(RuleStop::No(too_large()));
+        return Err(RuleStop::No(ill_sorted()));
     };
     match default_term(alloc, t, &sort, steps) {
         Ok(v) => Ok(v),
         Err(MakeStop::Memory) => Err(RuleStop::Memory),
-        Err(MakeStop::IllSorted) => Err(RuleStop::No(too_large())),
+        Err(MakeStop::IllSorted) => Err(RuleStop::No(ill_sorted())),
         Err(MakeStop::TooLarge) => Err(RuleStop::No(too_large())),
     }
 }
