@@ -1,3 +1,4 @@
 -- Definitions that contracts cite.
+pub mod Exists
 pub mod Reroot
 pub mod Weaken
