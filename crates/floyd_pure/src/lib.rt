@@ -1,17 +1,10 @@
 //! The commands that speak of formulas alone: the goals that each makes, and that a goal is true where these are.
+//!
+//! Each call stands with its row and its law in one of the crates below.
 #![tactic(auto)]
 
-mod cut;
-mod discriminate;
-mod left_right;
-mod mp;
-mod refl;
-mod rows;
-mod trivial;
-
-pub use cut::{cut_adds, cut_holds, do_cut};
-pub use discriminate::{discriminate_holds, discriminate_refutes, do_discriminate};
-pub use left_right::{do_left, do_right, left_holds, right_holds};
-pub use mp::{do_mp, mp_adds, mp_holds};
-pub use refl::{do_refl, refl_holds};
-pub use trivial::{do_trivial, trivial_holds};
+pub use floyd_pure_formulas::{
+    cut_adds, cut_holds, discriminate_holds, discriminate_refutes, do_cut, do_discriminate,
+    do_left, do_mp, do_refl, do_right, do_trivial, left_holds, mp_adds, mp_holds, refl_holds,
+    right_holds, trivial_holds,
+};

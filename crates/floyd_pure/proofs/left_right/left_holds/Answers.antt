@@ -1,5 +1,0 @@
-use Rattle.floyd_pure.proofs.LeftRight.{left_true}
-use Rattle.floyd_pure.proofs.left_right.left_holds.Goals as goal
-
-pub returns : goal.returns
-returns c = λ defs specs pure args goals keeps hyps_fit fit args_fit row true env suits hyps. left_true defs specs pure args goals keeps hyps_fit fit args_fit row true env suits hyps

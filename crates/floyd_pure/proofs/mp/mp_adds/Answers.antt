@@ -1,5 +1,0 @@
-use Rattle.floyd_pure.proofs.Using.{mp_adding}
-use Rattle.floyd_pure.proofs.mp.mp_adds.Goals as goal
-
-pub returns : goal.returns
-returns c = λ defs specs goal' args goals keeps hyps_fit args_fit row. mp_adding defs specs goal' args goals keeps hyps_fit args_fit row

@@ -1,5 +1,0 @@
-use Rattle.floyd_pure.proofs.Using.{mp_true}
-use Rattle.floyd_pure.proofs.mp.mp_holds.Goals as goal
-
-pub returns : goal.returns
-returns c = λ defs specs pure args goals keeps hyps_fit fit args_fit row true env suits hyps. mp_true defs specs pure args goals keeps hyps_fit fit args_fit row true env suits hyps
