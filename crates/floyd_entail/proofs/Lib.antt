@@ -1,1 +1,3 @@
 pub mod ExistsLemmas
+pub mod FactsLemmas
+pub mod IntrosLemmas

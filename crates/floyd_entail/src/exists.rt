@@ -105,6 +105,9 @@ fn for_first<L: Ledger>(
 }
 
 /// Puts a term in the place of the first existential of an Entail goal's target.
+///
+/// In the target each free occurrence of the existential's name has the sort of the term. Of a goal that is well formed, and
+/// a term of the existential's sort, this is so: below an existential its name has the existential's sort.
 pub fn do_exists<L: Ledger>(
     alloc: Global,
     goal: &Goal,

@@ -8,3 +8,7 @@ pub use floyd_pure_formulas::{
     do_left, do_mp, do_refl, do_right, do_trivial, left_holds, mp_adds, mp_holds, refl_holds,
     right_holds, trivial_holds,
 };
+pub use floyd_pure_quantifiers::{
+    do_exists, do_inject, do_intro, do_specialize, do_split, exists_holds, inject_adds,
+    inject_holds, intro_holds, specialize_adds, specialize_holds, split_holds,
+};

@@ -7,8 +7,9 @@ use Rattle.floyd_goal.specs.Goals.{pure_goal}
 use Rattle.floyd_goal_formulas.specs.Said.{Saying, Either, said}
 use Rattle.floyd_goal_formulas.proofs.Sayings.{SaidTrue, said_truth}
 use Rattle.floyd_goal_truth.specs.Scopes.{scope_of}
-use Rattle.floyd_pure_formulas.specs.Holds.{AreTrue, Holds}
+use Rattle.floyd_pure_formulas.specs.Keeps.{AreTrueFrom, KeepsTruth}
 use Rattle.floyd_pure_formulas.specs.LeftRight.{LeftRow, RightRow, left_of, right_of}
+use Rattle.floyd_pure_formulas.proofs.Going.{itself}
 use Rattle.floyd_pure_formulas.proofs.Rowing.{goals_are, no_goals}
 
 record OneSide (context : Context) (s : Saying) (goals : List Goal) (side : PlainFormula → PlainFormula → PlainFormula) : Type 0 where
@@ -25,16 +26,16 @@ right_by : (context : Context) (s : Saying) (goals : List Goal) → Ok goals ≡
 right_by context (Either a b) goals e = record { left = a; right = b; says = refl; made = goals_are goals (pure_goal context b ∷ []) e }
 right_by context s goals e = absurd (no_goals goals _ e)
 
-pub left_true : Holds LeftRow
-left_true defs specs pure args goals keeps hyps_fit fit args_fit row proved env suits hyps =
+pub left_true : KeepsTruth LeftRow
+left_true defs specs pure args goals keeps hyps_fit fit args_fit row env suits hyps proved =
     let p = left_by pure.context (said pure.target) goals row in
-    let one : AreTrue defs specs (pure_goal pure.context p.left ∷ []) = subst (AreTrue defs specs) p.made proved in
+    let one : AreTrueFrom defs specs pure.context env (pure_goal pure.context p.left ∷ []) = subst (AreTrueFrom defs specs pure.context env) p.made proved in
     said_truth defs specs (scope_of pure.context) env keeps suits pure.target fit
-    (subst (SaidTrue defs specs env ⊥) (sym p.says) (inl (one.0 env suits hyps)))
+    (subst (SaidTrue defs specs env ⊥) (sym p.says) (inl (one.0 env suits hyps (itself pure.context env))))
 
-pub right_true : Holds RightRow
-right_true defs specs pure args goals keeps hyps_fit fit args_fit row proved env suits hyps =
+pub right_true : KeepsTruth RightRow
+right_true defs specs pure args goals keeps hyps_fit fit args_fit row env suits hyps proved =
     let p = right_by pure.context (said pure.target) goals row in
-    let one : AreTrue defs specs (pure_goal pure.context p.right ∷ []) = subst (AreTrue defs specs) p.made proved in
+    let one : AreTrueFrom defs specs pure.context env (pure_goal pure.context p.right ∷ []) = subst (AreTrueFrom defs specs pure.context env) p.made proved in
     said_truth defs specs (scope_of pure.context) env keeps suits pure.target fit
-    (subst (SaidTrue defs specs env ⊥) (sym p.says) (inr (one.0 env suits hyps)))
+    (subst (SaidTrue defs specs env ⊥) (sym p.says) (inr (one.0 env suits hyps (itself pure.context env))))

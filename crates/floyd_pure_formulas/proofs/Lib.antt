@@ -1,7 +1,12 @@
 pub mod Closing
 pub mod Enriching
+pub mod Going
 pub mod LeftRight
+pub mod Likes
+pub mod NewVariables
 pub mod Premises
 pub mod Rowing
+pub mod Shapes
+pub mod Substituting
 pub mod Telling
 pub mod Using

@@ -18,9 +18,10 @@ use Rattle.floyd_goal_formulas.proofs.Literals.{number_is}
 use Rattle.floyd_goal_formulas.proofs.Sayings.{SaidTrue, truth_said}
 use Rattle.floyd_goal_truth.proofs.Uses.{hypothesis_true}
 use Rattle.floyd_pure_formulas.specs.Discriminate.{ClosesRefuted, DiscriminateRow, differ, is_refuted}
-use Rattle.floyd_pure_formulas.specs.Holds.{Specs, Holds, Refutes}
+use Rattle.floyd_pure_formulas.specs.Holds.{Specs, Refutes}
+use Rattle.floyd_pure_formulas.specs.Keeps.{KeepsTruth}
 use Rattle.floyd_pure_formulas.specs.Rows.{OfHypothesis, no_such}
-use Rattle.floyd_pure_formulas.proofs.Enriching.{holds_by_refuting}
+use Rattle.floyd_pure_formulas.proofs.Enriching.{keeps_by_refuting}
 use Rattle.floyd_pure_formulas.proofs.Rowing.{found, goals_are, no_goals, passed}
 
 no_list : (d : Datum) (i : Datum) → d ≡ Seq Empty → (r : Data) → d ≡ Seq (Item i r) → ⊥
@@ -60,5 +61,5 @@ discriminate_refuting defs specs goal args goals row =
     let q = closed args p.0 goals p.2 in
     (q.1, λ env suits hyps. refuted defs env specs (said p.0) q.0 (truth_said defs specs env p.0 (hypothesis_true defs specs env hs n p.0 p.1 hyps)))
 
-pub discriminate_true : Holds DiscriminateRow
-discriminate_true = holds_by_refuting DiscriminateRow discriminate_refuting
+pub discriminate_true : KeepsTruth DiscriminateRow
+discriminate_true = keeps_by_refuting DiscriminateRow discriminate_refuting

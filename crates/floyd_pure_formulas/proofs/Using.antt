@@ -4,7 +4,6 @@ use Rattle.std.proofs.lemmas.List.Elements.{All-cons, All-nil}
 use Rattle.floyd_tree.specs.Formulas.{PlainFormula}
 use Rattle.floyd_goal_trees.specs.declared.args.Args.{Args}
 use Rattle.floyd_goal_trees.specs.declared.goal.Goal.{Goal}
-use Rattle.floyd_goal_trees.specs.Contexts.{after_command}
 use Rattle.floyd_goal.specs.Goals.{intros_first, is_pending, number_of, pure_goal}
 use Rattle.floyd_goal.specs.Sides.{context_of}
 use Rattle.floyd_goal_formulas.specs.Fits.{Fits}
@@ -13,10 +12,11 @@ use Rattle.floyd_goal_formulas.proofs.Sayings.{SaidTrue, truth_said}
 use Rattle.floyd_goal_truth.specs.Scopes.{scope_of}
 use Rattle.floyd_goal_truth.proofs.Uses.{PartsFit, hypothesis_fits, hypothesis_true, parts_fit}
 use Rattle.floyd_pure_formulas.specs.Cut.{CutRow, cut_by}
-use Rattle.floyd_pure_formulas.specs.Holds.{AddsTrue, Holds}
+use Rattle.floyd_pure_formulas.specs.Holds.{AddsTrue}
+use Rattle.floyd_pure_formulas.specs.Keeps.{KeepsTruth}
 use Rattle.floyd_pure_formulas.specs.Mp.{ByImplication, MpRow}
 use Rattle.floyd_pure_formulas.specs.Rows.{Concludes, OfHypothesis, no_such, with_more}
-use Rattle.floyd_pure_formulas.proofs.Enriching.{concludes_adds, holds_by_adding}
+use Rattle.floyd_pure_formulas.proofs.Enriching.{concludes_adds, keeps_by_adding}
 use Rattle.floyd_pure_formulas.proofs.Rowing.{found, goals_are, no_goals, passed}
 
 cut_made : (goal : Goal) (o : Option PlainFormula) (goals : List Goal) → Ok goals ≡ cut_by goal o → (a : PlainFormula) × (goals ≡ pure_goal (context_of goal) a ∷ with_more goal (a ∷ []) ∷ [])
@@ -27,14 +27,14 @@ pub cut_adding : AddsTrue CutRow
 cut_adding defs specs goal args goals keeps hyps_fit args_fit row =
     let p = cut_made goal args.formula goals (passed (is_pending goal) intros_first (λ a. a ≡ cut_by goal args.formula) goals row) in
     record {
-      sides = record { context = after_command (context_of goal); target = p.0 } ∷ [];
+      asked = p.0 ∷ [];
       added = p.0 ∷ [];
       made = p.1;
-      hold = λ proved env suits hyps. (proved.0 env suits hyps, tt);
+      hold = λ env suits hyps asked. asked;
     }
 
-pub cut_true : Holds CutRow
-cut_true = holds_by_adding CutRow cut_adding
+pub cut_true : KeepsTruth CutRow
+cut_true = keeps_by_adding CutRow cut_adding
 
 record Implied (goal : Goal) (h : PlainFormula) (goals : List Goal) : Type 0 where
   pub premise : PlainFormula
@@ -61,5 +61,5 @@ mp_adding defs specs goal args goals keeps hyps_fit args_fit row =
     implies premises.0)
     q.row
 
-pub mp_true : Holds MpRow
-mp_true = holds_by_adding MpRow mp_adding
+pub mp_true : KeepsTruth MpRow
+mp_true = keeps_by_adding MpRow mp_adding

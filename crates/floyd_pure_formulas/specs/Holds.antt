@@ -15,6 +15,7 @@ use Rattle.floyd_goal_trees.specs.declared.context.Context.{Context}
 use Rattle.floyd_goal_trees.specs.declared.goal.Goal.{Goal}
 use Rattle.floyd_goal_trees.specs.declared.goal.Goal.TheVariants as g
 use Rattle.floyd_goal_trees.specs.declared.goal.Pure.{Pure}
+use Rattle.floyd_goal.specs.Goals.{pure_goal}
 use Rattle.floyd_goal.specs.Sides.{context_of}
 use Rattle.floyd_goal_formulas.specs.Fits.{Fits}
 use Rattle.floyd_goal_truth.specs.Scopes.{AllFit, scope_of}
@@ -54,13 +55,13 @@ abbrev pub Holds : Row → Type 0
 Holds Row =
     (defs : Defs) (specs : Specs) (pure : Pure) (args : Args) (goals : List Goal) → DefsKeep defs → AllFit defs pure.context pure.context.hypotheses → Fits defs (scope_of pure.context) pure.target → ArgsFit defs pure.context args → Row (g.Pure pure) args (Ok goals) → AreTrue defs specs goals → IsTrueGoal defs specs pure
 
--- The goals are Pure ones and, behind them, the goal with formulas more. Where the Pure ones are true, these formulas are
--- true under all data under which the hypotheses of the goal are.
+-- The goals ask for a proof of formulas and, behind them, there is the goal with formulas more. Under all data under which
+-- the hypotheses of the goal are true, those that are added are so where those that are asked for are.
 pub record Adds (defs : Defs) (specs : Specs) (goal : Goal) (goals : List Goal) : Type 0 where
-  pub sides : List Pure
+  pub asked : List PlainFormula
   pub added : List PlainFormula
-  pub made : goals ≡ map g.Pure sides ++ with_more goal added ∷ []
-  pub hold : AreTrue defs specs (map g.Pure sides) → Under defs specs (context_of goal) (λ env. AllTrue defs specs env added)
+  pub made : goals ≡ map (pure_goal (context_of goal)) asked ++ with_more goal added ∷ []
+  pub hold : Under defs specs (context_of goal) (λ env. AllTrue defs specs env asked → AllTrue defs specs env added)
 
 -- The row only adds formulas that are true where the hypotheses are, to a goal of any kind.
 abbrev pub AddsTrue : Row → Type 0

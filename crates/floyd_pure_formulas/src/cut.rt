@@ -1,7 +1,8 @@
 ghost use Rattle.std.specs.Prelude.{◌≡◌, IfOk, Ok, Some};
 ghost use Rattle.floyd_goal.specs.Answers.{IsAnswer};
 ghost use Rattle.floyd_pure_formulas.specs.Cut.{CutRow, cut_by as cut_by_lem};
-ghost use Rattle.floyd_pure_formulas.specs.Holds.{AddsTrue, Holds};
+ghost use Rattle.floyd_pure_formulas.specs.Holds.{AddsTrue};
+ghost use Rattle.floyd_pure_formulas.specs.Keeps.{KeepsTruth};
 
 use crate::rows::with_more;
 use floyd_assert_trees::{Defs, SpecTable};
@@ -51,5 +52,5 @@ pub fn cut_adds()
 
 /// A goal is true where the formula is, and the goal with it is.
 pub fn cut_holds()
-    ensures { Holds CutRow }
+    ensures { KeepsTruth CutRow }
 {}

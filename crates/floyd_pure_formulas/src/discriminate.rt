@@ -2,7 +2,8 @@ ghost use Rattle.std.specs.Prelude.{◌≡◌};
 ghost use Rattle.floyd_goal.specs.Answers.{IsAnswer};
 ghost use Rattle.floyd_goal_formulas.specs.Said.{said as said_lem};
 ghost use Rattle.floyd_pure_formulas.specs.Discriminate.{DiscriminateRow, differ as differ_lem, is_refuted as is_refuted_lem};
-ghost use Rattle.floyd_pure_formulas.specs.Holds.{Holds, Refutes};
+ghost use Rattle.floyd_pure_formulas.specs.Holds.{Refutes};
+ghost use Rattle.floyd_pure_formulas.specs.Keeps.{KeepsTruth};
 
 use crate::rows::{named_by, no_such};
 use floyd_assert_trees::{Defs, SpecTable};
@@ -69,5 +70,5 @@ pub fn discriminate_refutes()
 
 /// A goal that is closed is true.
 pub fn discriminate_holds()
-    ensures { Holds DiscriminateRow }
+    ensures { KeepsTruth DiscriminateRow }
 {}

@@ -1,6 +1,6 @@
 ghost use Rattle.floyd_goal.specs.Answers.{IsAnswer};
 ghost use Rattle.floyd_goal_formulas.specs.Said.{said as said_lem};
-ghost use Rattle.floyd_pure_formulas.specs.Holds.{Holds};
+ghost use Rattle.floyd_pure_formulas.specs.Keeps.{KeepsTruth};
 ghost use Rattle.floyd_pure_formulas.specs.LeftRight.{LeftRow, RightRow, left_of as left_of_lem, right_of as right_of_lem};
 ghost use Rattle.floyd_text.specs.Gives.{RuleGives};
 
@@ -66,10 +66,10 @@ pub fn do_right<L: Ledger>(
 
 /// A goal is true where its left side is.
 pub fn left_holds()
-    ensures { Holds LeftRow }
+    ensures { KeepsTruth LeftRow }
 {}
 
 /// A goal is true where its right side is.
 pub fn right_holds()
-    ensures { Holds RightRow }
+    ensures { KeepsTruth RightRow }
 {}

@@ -1,6 +1,7 @@
 ghost use Rattle.floyd_goal.specs.Answers.{IsAnswer};
 ghost use Rattle.floyd_goal_formulas.specs.Said.{said as said_lem};
-ghost use Rattle.floyd_pure_formulas.specs.Holds.{AddsTrue, Holds};
+ghost use Rattle.floyd_pure_formulas.specs.Holds.{AddsTrue};
+ghost use Rattle.floyd_pure_formulas.specs.Keeps.{KeepsTruth};
 ghost use Rattle.floyd_pure_formulas.specs.Mp.{ByImplication, MpRow};
 
 use crate::rows::{concluding, named_by, no_such};
@@ -57,5 +58,5 @@ pub fn mp_adds()
 
 /// A goal is true where the premise is, and the goal with the conclusion is.
 pub fn mp_holds()
-    ensures { Holds MpRow }
+    ensures { KeepsTruth MpRow }
 {}

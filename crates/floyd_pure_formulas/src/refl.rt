@@ -1,7 +1,7 @@
 ghost use Rattle.std.specs.Prelude.{◌↔◌, IsTrue};
 ghost use Rattle.floyd_goal.specs.Answers.{IsAnswer};
 ghost use Rattle.floyd_goal_formulas.specs.Said.{said as said_lem};
-ghost use Rattle.floyd_pure_formulas.specs.Holds.{Holds};
+ghost use Rattle.floyd_pure_formulas.specs.Keeps.{KeepsTruth};
 ghost use Rattle.floyd_pure_formulas.specs.Refl.{IsIdentity, ReflRow};
 
 use floyd_assert_trees::{Defs, SpecTable};
@@ -47,5 +47,5 @@ pub fn do_refl<L: Ledger>(
 
 /// A goal that is closed is true.
 pub fn refl_holds()
-    ensures { Holds ReflRow }
+    ensures { KeepsTruth ReflRow }
 {}

@@ -1,6 +1,6 @@
 ghost use Rattle.std.specs.Prelude.{◌↔◌, IsTrue};
 ghost use Rattle.floyd_goal.specs.Answers.{IsAnswer};
-ghost use Rattle.floyd_pure_formulas.specs.Holds.{Holds};
+ghost use Rattle.floyd_pure_formulas.specs.Keeps.{KeepsTruth};
 ghost use Rattle.floyd_pure_formulas.specs.Trivial.{HasAbsurd, IsTrivial, TrivialRow};
 
 use floyd_assert_trees::{Defs, SpecTable};
@@ -55,5 +55,5 @@ pub fn do_trivial<L: Ledger>(
 
 /// A goal that is closed is true.
 pub fn trivial_holds()
-    ensures { Holds TrivialRow }
+    ensures { KeepsTruth TrivialRow }
 {}

@@ -1,0 +1,3 @@
+pub mod CancelLemmas
+pub mod LocalLemmas
+pub mod NumberLemmas

@@ -1,0 +1,3 @@
+-- Definitions that contracts cite.
+pub mod Cancel
+pub mod CancelClauses

@@ -1,0 +1,4 @@
+-- Definitions that contracts cite.
+pub mod Counts
+pub mod Joining
+pub mod Plans

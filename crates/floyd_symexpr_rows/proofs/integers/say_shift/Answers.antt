@@ -1,0 +1,10 @@
+use Rattle.floyd_symexpr_rows.specs.Rows.{amount_fits, ranges}
+use Rattle.floyd_symexpr_rows.proofs.SayingLemmas.{more_said, said_stops, stopped}
+use Rattle.floyd_symexpr_rows.proofs.integers.say_shift.Goals as goal
+
+pub returns-in_err-say_ranges : goal.returns-in_err-say_ranges
+returns-in_err-say_ranges g c =
+    record { exact = stopped _ _ _ _ c.from_residual.ensures.1 (said_stops _ c.args.all.now (ranges c.args.a.now c.args.b.now) (amount_fits c.args.a.now c.args.b.now c.args.more.now) c.in_err-say_ranges.ensures.exact) }
+
+pub returns : goal.returns
+returns g c = record { exact = more_said _ c.args.all.now (ranges c.args.a.now c.args.b.now) (amount_fits c.args.a.now c.args.b.now c.args.more.now) _ _ c.in_ok-say_ranges.ensures.exact c.say_amount.ensures.exact }

@@ -1,0 +1,4 @@
+-- Definitions that contracts cite.
+pub mod Leaves
+pub mod Slots
+pub mod Brackets

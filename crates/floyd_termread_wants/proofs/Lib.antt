@@ -1,0 +1,3 @@
+pub mod JudgedLists
+pub mod MakingLemmas
+pub mod WantLemmas
