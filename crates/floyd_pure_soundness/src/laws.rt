@@ -4,6 +4,11 @@ ghost use Rattle.floyd_pure_formulas.specs.LeftRight.{LeftRow, RightRow};
 ghost use Rattle.floyd_pure_formulas.specs.Mp.{MpRow};
 ghost use Rattle.floyd_pure_formulas.specs.Refl.{ReflRow};
 ghost use Rattle.floyd_pure_formulas.specs.Trivial.{TrivialRow};
+ghost use Rattle.floyd_pure_quantifiers.specs.Exists.{ExistsRow};
+ghost use Rattle.floyd_pure_quantifiers.specs.Inject.{InjectRow};
+ghost use Rattle.floyd_pure_quantifiers.specs.Intro.{IntroRow};
+ghost use Rattle.floyd_pure_quantifiers.specs.Specialize.{SpecializeRow};
+ghost use Rattle.floyd_pure_quantifiers.specs.Split.{SplitRow};
 ghost use Rattle.floyd_pure_soundness.specs.Adding as adding;
 ghost use Rattle.floyd_pure_soundness.specs.Rows.{IsSound, IsSoundOnPure};
 
@@ -50,4 +55,29 @@ pub fn left_is_sound()
 /// A Pure goal holds where that of its right side does.
 pub fn right_is_sound()
     ensures { IsSoundOnPure RightRow }
+{}
+
+/// A goal of any kind holds where it does with the instance of a hypothesis.
+pub fn specialize_is_sound()
+    ensures { IsSound SpecializeRow }
+{}
+
+/// A goal of any kind holds where it does with the equations of the arguments of equal constructors.
+pub fn inject_is_sound()
+    ensures { IsSound InjectRow }
+{}
+
+/// A Pure goal holds where that of an instance does.
+pub fn exists_is_sound()
+    ensures { IsSoundOnPure ExistsRow }
+{}
+
+/// A Pure goal holds where it does with its premise as a hypothesis, or with a new variable.
+pub fn intro_is_sound()
+    ensures { IsSoundOnPure IntroRow }
+{}
+
+/// A Pure goal holds where those of both formulas do.
+pub fn split_is_sound()
+    ensures { IsSoundOnPure SplitRow }
 {}
