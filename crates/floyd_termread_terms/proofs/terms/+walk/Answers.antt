@@ -110,7 +110,7 @@ pub parts-returns-in_err-part : goal.parts-returns-in_err-part
 parts-returns-in_err-part t c = record {
   exact = judges_stop _ _ _ _ _ refl c.from_residual-in_err-part.ensures.1
       (part_stops (env c.args.scope.now c.args.bound.now) c.args.slots.now c.items.known c.items.all c.items.rest.now c.in-Some.behind.now c.in-Some.item.now _ c.in-Some.ensures.cases.0 c.items.invariant.done
-          c.len-number.result c.in_ok-goal.goal c.len-number.ensures c.in_ok-goal.ensures _ c.in_err-part.ensures.exact);
+      c.len-number.result c.in_ok-goal.goal c.len-number.ensures c.in_ok-goal.ensures _ c.in_err-part.ensures.exact);
 }
 
 pub parts-items-preserved : goal.parts-items-preserved
@@ -131,14 +131,14 @@ pub rest_of_row-returns-in_err-term : goal.rest_of_row-returns-in_err-term
 rest_of_row-returns-in_err-term t c = record {
   exact = judges_stop _ _ _ _ _ refl c.from_residual-in_err-term.ensures.1
       (operand_stops (env c.args.scope.now c.args.bound.now) c.args.wanted.now c.links.row c.links.rest.now c.in-Some.behind.now c.in-Some.link.now _ c.in-Some.ensures.cases.0 c.links.invariant.done
-          c.is_end-last.result c.in_ok-side.side c.is_end-last.ensures c.in_ok-side.ensures _ c.in_err-term.ensures.exact);
+      c.is_end-last.result c.in_ok-side.side c.is_end-last.ensures c.in_ok-side.ensures _ c.in_err-term.ensures.exact);
 }
 
 pub rest_of_row-returns-in_err-row : goal.rest_of_row-returns-in_err-row
 rest_of_row-returns-in_err-row t c = record {
   exact = judges_stop _ _ _ _ _ refl c.from_residual-in_err-row.ensures.1
       (with_stops (env c.args.scope.now c.args.bound.now) c.args.wanted.now c.links.row c.links.rest.now c.in-Some.behind.now c.in-Some.link.now _ c.in-Some.ensures.cases.0 c.links.invariant.done
-          c.is_end-last.result c.in_ok-side.side c.is_end-last.ensures c.in_ok-side.ensures c.in_ok-term.term c.first_place-place.result c.first_place-place.ensures c.in_ok-term.ensures.exact _ c.in_err-row.ensures.exact);
+      c.is_end-last.result c.in_ok-side.side c.is_end-last.ensures c.in_ok-side.ensures c.in_ok-term.term c.first_place-place.result c.first_place-place.ensures c.in_ok-term.ensures.exact _ c.in_err-row.ensures.exact);
 }
 
 pub rest_of_row-links-preserved : goal.rest_of_row-links-preserved
