@@ -13,6 +13,7 @@ use Rattle.floyd_tree_values.specs.Data.{Datum}
 use Rattle.floyd_tree_values.specs.Funs.{Fun, Opened, called, fun_of, opened}
 use Rattle.floyd_tree_values.specs.Means.{Defs, Means, AllMean, built_in, call, none, more}
 use Rattle.floyd_tree_values.specs.Rules.{Scope, Calls, IsAllowed, EachAllowed, AllAllowed, CallsOf}
+use Rattle.floyd_tree_values.specs.Rules as rules
 use Rattle.floyd_goal_formulas.specs.Fits.{Fits, AreAllowed, scope_below}
 use Rattle.floyd_goal_formulas.specs.Fits as formula
 use Rattle.floyd_assert_trees.specs.declared.items.Defs as items
@@ -82,6 +83,12 @@ module _ (structs : Structs) (funs all : List Fun) (k : AreAmong funs all) where
 module _ (L : Linked) (defs : items.Defs) (specs : SpecTable) (has : Has L defs specs) where
   in_program : (P : Defs → Type 0) → P (record { structs = defs.structs; funs = funs_of L }) → P (defs_of L)
   in_program P p = subst (λ structs. P (record { structs = structs; funs = funs_of L })) (sym has.structs) p
+
+  pub term_fits_program : (scope : Scope) (s : Sort) (t : Plain) → rules.Fits defs.structs scope (CallsOf (value_defs defs).funs) s t → rules.Fits L.structs scope (CallsOf (funs_of L)) s t
+  term_fits_program scope s t h = in_program (λ d. rules.Fits d.structs scope (CallsOf d.funs) s t) (record {
+    sorted = h.sorted;
+    allowed = each_more defs.structs scope (CallsOf (value_defs defs).funs) (CallsOf (funs_of L)) (calls_more (value_defs defs).funs (funs_of L) has.funs) t h.allowed;
+  })
 
   pub fits_program : (scope : Scope) (f : PlainFormula) → Fits (value_defs defs) scope f → Fits (defs_of L) scope f
   fits_program scope f h = in_program (λ d. Fits d scope f) (fits_many defs.structs (value_defs defs).funs (funs_of L) has.funs scope f h)

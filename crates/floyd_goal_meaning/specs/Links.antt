@@ -1,17 +1,14 @@
 -- What a linked program has of what a module's proofs stand on.
-use Rattle.std.specs.Prelude.{◌≡◌, ◌⊎◌, ℕ, true, List, [], ◌∷◌, ◌++◌, map, Some, is_some, bytes_eq, IsSome}
-use Rattle.std.specs.List.{AllByRecursion}
+use Rattle.std.specs.Prelude.{◌≡◌, ℕ, true, List, [], ◌∷◌, ◌++◌, map, Some, is_some, bytes_eq}
 use Rattle.std.specs.Map.{lookup}
 use Rattle.floyd_ctypes.specs.declared.ctype.CType.{CType}
-use Rattle.floyd_ctypes.specs.Layout.{size}
-use Rattle.floyd_clight.specs.declared.unit.Defined.{Defined}
 use Rattle.floyd_clight_machine.specs.Looking.{Ident}
 use Rattle.floyd_clight_runs.specs.Starts.{AllDiffer, function_blocks, variable_blocks}
 use Rattle.floyd_tree_sorts.specs.declared.heads.Head.TheVariants.{Literal}
 use Rattle.floyd_tree.specs.Plain.{At, Done}
 use Rattle.floyd_tree.specs.Types.{SizedType}
 use Rattle.floyd_tree_values.specs.Funs.{Fun, fun_of}
-use Rattle.floyd_tree_values.specs.Rules.{AreDistinct, DefsKeep, IsOneOf}
+use Rattle.floyd_tree_values.specs.Rules.{DefsKeep, IsOneOf}
 use Rattle.floyd_assert_cells.specs.Types.{shape_of, sizes_of}
 use Rattle.floyd_assert_trees.specs.declared.items.Defs.{Defs}
 use Rattle.floyd_assert_trees.specs.declared.items.Pred.{Pred}
@@ -19,12 +16,10 @@ use Rattle.floyd_assert_trees.specs.declared.spec.Funspec.{Funspec}
 use Rattle.floyd_assert_trees.specs.declared.spec.SpecTable.{SpecTable}
 use Rattle.floyd_assert_trees.specs.Meanings.{value_defs}
 use Rattle.floyd_assert_meaning.specs.Same.{SameFunspec}
-use Rattle.floyd_goal_meaning.specs.declared.linked.ImportBy.{ImportBy}
 use Rattle.floyd_goal_meaning.specs.declared.linked.Linked.{Linked}
 use Rattle.floyd_goal_meaning.specs.declared.linked.LinkedFunction.{LinkedFunction}
 use Rattle.floyd_goal_meaning.specs.declared.linked.LinkedVariable.{LinkedVariable}
-use Rattle.floyd_goal_meaning.specs.declared.linked.Module.{Module}
-use Rattle.floyd_goal_meaning.specs.Programs.{Further, Places, defs_of, funs_of, int, linked_function, main, preds_of, program}
+use Rattle.floyd_goal_meaning.specs.Programs.{Further, Places, defs_of, funs_of, linked_function, preds_of, program}
 
 -- the type is that of C, whose arrays have literal sizes
 pub record TypeIs (t : SizedType) (c : CType) : Type 0 where
@@ -67,35 +62,3 @@ pub record Has (L : Linked) (defs : Defs) (specs : SpecTable) : Type 0 where
 -- the names of the file have distinct blocks
 abbrev pub AreApart : Linked → List Further → Places → Type 0
 AreApart L more place = AllDiffer (variable_blocks (program L more place) ++ function_blocks (program L more place))
-
--- `int main(void)` has a body
-pub record HasMain (L : Linked) : Type 0 where
-  pub function : LinkedFunction
-  pub is : linked_function L main ≡ Some function
-  pub parameters : function.parameters ≡ []
-  pub result : function.result ≡ int
-  pub body : Defined
-  pub has_body : function.body ≡ Some body
-
--- the module imports the function with a specification of its own
-abbrev pub ImportsBy : Module → Ident → Type 0
-ImportsBy m f = IsOneOf (map (λ (i : ImportBy). i.name) m.imports) f
-
--- A specification that a module sees is the function's own, up to bound names, or that of the module's import.
-abbrev pub SeesOwn : Linked → Module → Type 0
-SeesOwn L m =
-    (f : Ident) (g : LinkedFunction) (spec own : Funspec) → lookup (bytes_eq f) m.specs.functions ≡ Some spec → linked_function L f ≡ Some g → g.own ≡ Some own
-    → SameFunspec own spec ⊎ ImportsBy m f
-
--- what a module's proofs stand on is that of the program, and no lemma is proved yet
-pub record ModuleLinks (L : Linked) (m : Module) : Type 0 where
-  pub has : Has L m.defs m.specs
-  pub proved : m.defs.proved ≡ []
-  pub sees : SeesOwn L m
-
--- The names of the file are distinct, each variable has a size, `int main(void)` has a body, and the modules are linked.
-pub record Links (L : Linked) : Type 0 where
-  pub distinct : AreDistinct (names_of L)
-  pub sized : AllByRecursion (λ (v : LinkedVariable). IsSome (size L.structs v.ctype)) L.variables
-  pub main : HasMain L
-  pub modules : AllByRecursion (ModuleLinks L) L.modules

@@ -106,10 +106,10 @@ is_one (b ∷ names) v h = by (is_one names v) (bytes_eq v b.name) refl h
     by go true e k = inl ((bytes_eq-Decides v b.name).0 e)
     by go false e k = inr (go k)
 
-abbrev sorts_of : List Binder → List (List ℕ × Sort)
+abbrev pub sorts_of : List Binder → List (List ℕ × Sort)
 sorts_of binders = map (λ (b : Binder). (b.name, b.sort)) binders
 
-sorted_each : (names : List Binder) (f : List ℕ → Datum) (ds : List Datum) → AreFor names ds → AreDistinct (map (λ (b : Binder). b.name) names) → (v : List ℕ) (s : Sort) → lookup (bytes_eq v) (sorts_of names) ≡ Some s → HasSort s (with_each f names ds v)
+pub sorted_each : (names : List Binder) (f : List ℕ → Datum) (ds : List Datum) → AreFor names ds → AreDistinct (map (λ (b : Binder). b.name) names) → (v : List ℕ) (s : Sort) → lookup (bytes_eq v) (sorts_of names) ≡ Some s → HasSort s (with_each f names ds v)
 sorted_each [] f ds k u v s l = absurd cc
 sorted_each (b ∷ names) f [] k u v s l = absurd k
 sorted_each (b ∷ names) f (d ∷ ds) k u v s l = by (sorted_each names (λ y. if bytes_eq y b.name then d else f y) ds k.1 u.1 v s) (bytes_eq v b.name) refl l

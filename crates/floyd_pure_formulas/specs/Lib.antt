@@ -1,13 +1,20 @@
 -- Definitions that contracts cite: what rows share, and a file for each command.
+pub mod ConstructorsClauses
 pub mod Cut
+pub mod Destruct
 pub mod Discriminate
 pub mod Holds
+pub mod HypothesisCases
 pub mod Instances
 pub mod InstancesClauses
 pub mod Keeps
 pub mod LeftRight
 pub mod Mp
 pub mod Naming
+pub mod OpeningClauses
 pub mod Refl
 pub mod Rows
+pub mod Scoping
+pub mod Splits
 pub mod Trivial
+pub mod VariableCases

@@ -1,0 +1,93 @@
+-- The two goals with which the proof of an import with a specification of its own starts.
+use Rattle.std.specs.Prelude.{ℕ, Bool, ◌&&◌, ◌||◌, if◌then◌else◌, List, [], ◌∷◌, ◌++◌, map, Option, Some, None, bytes_eq}
+use Rattle.std.specs.List.{list_all, list_any}
+use Rattle.floyd_tree_sorts.specs.declared.connectives.FormulaHead.TheVariants.{Equal}
+use Rattle.floyd_tree.specs.Formulas.{PlainFormula, Says, NoFormula}
+use Rattle.floyd_tree.specs.MadeFormulas.{formula_fits}
+use Rattle.floyd_tree.specs.Plain.{Plain, Done, More}
+use Rattle.floyd_truth.specs.Capture.{most_marks, unmarked_from}
+use Rattle.floyd_truth.specs.Replace.{puts, replaced, replaced_formula}
+use Rattle.floyd_assert_trees.specs.declared.assertion.Assertion.{Assertion}
+use Rattle.floyd_assert_trees.specs.declared.assertion.Local.{Local}
+use Rattle.floyd_assert_trees.specs.declared.binder.Binder.{Binder}
+use Rattle.floyd_assert_trees.specs.declared.sep.Sep.{Sep}
+use Rattle.floyd_assert_trees.specs.declared.spec.Funspec.{Funspec}
+use Rattle.floyd_assert_trees.specs.declared.spec.Postcondition.{Postcondition}
+use Rattle.floyd_assert_changes.specs.Changed.{assertion_after, assertion_fits, below_existentials, body_after, body_binds, body_mentions, has_name, part_after}
+use Rattle.floyd_goal_trees.specs.declared.context.Mark.TheVariants as m
+use Rattle.floyd_goal_trees.specs.declared.goal.Entail.{Entail}
+use Rattle.floyd_goal_forms.specs.Terms.{names_with}
+
+-- terms for the variables of WITH, one by one
+abbrev pub with_terms : List Binder → List Plain → List (List ℕ × Plain)
+with_terms (b ∷ binders) (t ∷ ts) = (b.name, t) ∷ with_terms binders ts
+with_terms binders ts = []
+
+abbrev pub equation : Plain → Plain → PlainFormula
+equation a b = Says Equal (More a (More b Done)) NoFormula
+
+abbrev pub equations : List Plain → List Plain → List PlainFormula
+equations (a ∷ ts) (b ∷ us) = equation a b ∷ equations ts us
+equations ts us = []
+
+abbrev pub plain_assertion : List PlainFormula → List Sep → Assertion
+plain_assertion props parts = record { existentials = []; props = props; locals = []; parts = parts }
+
+-- The import's precondition gives the function's own, at these terms, and the parts beside it. Its PROP are hypotheses.
+abbrev pub first_goal : Funspec → Funspec → List Plain → List Sep → Entail
+first_goal import own terms frame =
+    let by = puts (with_terms own.with terms) in
+    record {
+      context = record { variables = import.with; hypotheses = import.pre.props; mark = m.Plain };
+      source = plain_assertion [] import.pre.parts;
+      target = plain_assertion (equations import.pre.params (map (replaced by) own.pre.params) ++ map (replaced_formula by) own.pre.props) (map (part_after by) own.pre.parts ++ frame);
+    }
+
+-- ---- the own postcondition, with its existentials as variables
+
+abbrev pub value_local : Option Plain → List Local
+value_local None = []
+value_local (Some t) = record { name = []; term = t } ∷ []
+
+abbrev pub value_in : List Local → Option Plain
+value_in [] = None
+value_in (l ∷ locals) = Some l.term
+
+-- with its term of RETURN below the existentials, as that of a temporary without a name
+abbrev pub with_value : Postcondition → Assertion
+with_value post = record { existentials = post.existentials; props = post.props; locals = value_local post.value; parts = post.parts }
+
+abbrev pub is_among : List (List ℕ) → List ℕ → Bool
+is_among names x = list_any (bytes_eq x) names
+
+-- x, or x'k where x is one of these names: with the least k from 1 that is none of them, is neither free nor bound in what
+-- the binder covers, and is no other of its list
+abbrev pub fresh_name : List (List ℕ) → Assertion → List Binder → List ℕ → List ℕ
+fresh_name names a others x =
+    if is_among names x then unmarked_from (λ name. is_among names name || (body_mentions a name || (body_binds a name || has_name name others))) x most_marks 1 else x
+
+abbrev pub fresh_from : List (List ℕ) → Assertion → List Binder → List Binder → List Binder
+fresh_from names a done [] = done
+fresh_from names a done (b ∷ more) = fresh_from names a (done ++ record { name = fresh_name names a (done ++ more) b.name; sort = b.sort } ∷ []) more
+
+-- with existentials that are none of these names
+abbrev pub freed : List (List ℕ) → Assertion → Assertion
+freed names a = let new = fresh_from names a [] a.existentials in body_after (below_existentials [] a.existentials new) a new
+
+abbrev pub value_equation : Option Plain → Option Plain → List PlainFormula
+value_equation (Some a) (Some b) = equation a b ∷ []
+value_equation a b = []
+
+-- The function's own postcondition, at these terms, and the parts beside it give the import's.
+abbrev pub second_goal : Funspec → Funspec → List Plain → List Sep → Entail
+second_goal import own terms frame =
+    let post = freed (names_with (import.with ++ import.post.existentials)) (assertion_after (puts (with_terms own.with terms)) (with_value own.post)) in
+    record {
+      context = record { variables = import.with ++ post.existentials; hypotheses = import.pre.props ++ post.props; mark = m.Plain };
+      source = plain_assertion [] (post.parts ++ frame);
+      target = record { existentials = import.post.existentials; props = import.post.props ++ value_equation (value_in post.locals) import.post.value; locals = []; parts = import.post.parts };
+    }
+
+-- no term or formula of it is beyond the limits
+abbrev pub is_within_limits : Entail → Bool
+is_within_limits goal = list_all formula_fits goal.context.hypotheses && (assertion_fits goal.source && assertion_fits goal.target)

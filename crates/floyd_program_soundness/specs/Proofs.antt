@@ -1,0 +1,75 @@
+-- The proofs of a linked program, one after the other.
+use Rattle.std.specs.Prelude.{◌≡◌, ◌⊎◌, ℕ, true, List, [], ◌∷◌, ◌++◌, map, Some, is_some, bytes_eq}
+use Rattle.std.specs.List.{AllByRecursion}
+use Rattle.std.specs.Map.{lookup}
+use Rattle.floyd_clight.specs.declared.unit.Defined.{Defined}
+use Rattle.floyd_clight_memory.specs.Memory.{nth}
+use Rattle.floyd_assert_trees.specs.declared.items.Defs.{Defs}
+use Rattle.floyd_assert_trees.specs.declared.items.Lemma.{Lemma}
+use Rattle.floyd_assert_trees.specs.declared.spec.Funspec.{Funspec}
+use Rattle.floyd_goal_forms.specs.Starts.{function_start, lemma_start}
+use Rattle.floyd_goal_trees.specs.declared.goal.Goal.{Goal}
+use Rattle.floyd_goal_meaning.specs.declared.linked.Linked.{Linked}
+use Rattle.floyd_goal_meaning.specs.declared.linked.LinkedFunction.{LinkedFunction}
+use Rattle.floyd_goal_meaning.specs.declared.linked.Module.{Module}
+use Rattle.floyd_goal_meaning.specs.GoalHolds.{HoldsFor}
+use Rattle.floyd_goal_meaning.specs.Programs.{linked_function}
+use Rattle.floyd_links.specs.Links.{ImportsBy}
+
+pub data Kind : Type 0 where
+  OfLemma : Kind
+  OfBody : Kind
+
+-- What a proof is of: a lemma or a body, by the number of its module and its name; and the names of the lemmas that it may
+-- use.
+pub record Proof : Type 0 where
+  pub kind : Kind
+  pub number : ℕ
+  pub name : List ℕ
+  pub before : List (List ℕ)
+
+-- what a module's proofs stand on, where these lemmas are proved
+abbrev pub with_proved : Defs → List (List ℕ) → Defs
+with_proved defs names = record defs { proved = map (λ x. (x, tt)) names }
+
+-- a function with a body, to which the module gives a specification, and not by an import
+pub record BodyOf (L : Linked) (m : Module) (name : List ℕ) : Type 0 where
+  pub spec : Funspec
+  pub seen : lookup (bytes_eq name) m.specs.functions ≡ Some spec
+  pub declared : ¬ ImportsBy m name
+  pub function : LinkedFunction
+  pub is : linked_function L name ≡ Some function
+  pub body : Defined
+  pub has_body : function.body ≡ Some body
+
+-- the proof of a lemma or of a body of the module starts with the goal
+abbrev pub StartsWith : Linked → Module → Kind → List ℕ → Goal → Type 0
+StartsWith L m OfLemma name goal = (l : Lemma) × (lookup (bytes_eq name) m.defs.lemmas ≡ Some l) × (goal ≡ lemma_start name l)
+StartsWith L m OfBody name goal = (b : BodyOf L m name) × (goal ≡ function_start L.structs b.spec b.body)
+
+-- one of the proofs is of that
+abbrev pub IsProvedBy : List Proof → Kind → List ℕ → Type 0
+IsProvedBy [] kind name = ⊥
+IsProvedBy (p ∷ proofs) kind name = ((p.kind ≡ kind) × (p.name ≡ name)) ⊎ IsProvedBy proofs kind name
+
+-- Its start goal holds for every number of steps, where the lemmas that it may use are true, and these are proved earlier.
+pub record IsProof (L : Linked) (earlier : List Proof) (p : Proof) : Type 0 where
+  pub module' : Module
+  pub at : nth L.modules p.number ≡ Some module'
+  pub goal : Goal
+  pub starts : StartsWith L module' p.kind p.name goal
+  pub holds : (n : ℕ) → HoldsFor (with_proved module'.defs p.before) module'.specs n goal
+  pub before : AllByRecursion (IsProvedBy earlier OfLemma) p.before
+
+abbrev pub AreProofs : Linked → List Proof → List Proof → Type 0
+AreProofs L earlier [] = Unit {0}
+AreProofs L earlier (p ∷ proofs) = IsProof L earlier p × AreProofs L (earlier ++ p ∷ []) proofs
+
+-- each function with a body has a specification of its own and a proof
+abbrev pub AreBodiesProved : Linked → List Proof → Type 0
+AreBodiesProved L proofs =
+    AllByRecursion (λ (f : LinkedFunction). (d : Defined) → f.body ≡ Some d → (is_some f.own ≡ true) × IsProvedBy proofs OfBody f.name) L.functions
+
+-- no module imports a function with a specification of its own
+abbrev pub NoImportsBy : Linked → Type 0
+NoImportsBy L = AllByRecursion (λ (m : Module). m.imports ≡ []) L.modules

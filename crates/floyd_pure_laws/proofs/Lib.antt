@@ -1,0 +1,4 @@
+pub mod Certifying
+pub mod LawTerms
+pub mod RowAnswers
+pub mod UsingLaws

@@ -1,0 +1,3 @@
+-- Definitions that contracts cite: a file for each command.
+pub mod ByLaw
+pub mod Lia

@@ -1,0 +1,3 @@
+-- Definitions that contracts cite.
+pub mod Adding
+pub mod Rows
