@@ -42,7 +42,8 @@ use Rattle.floyd_cparse_tokens.proofs.TokenLemmas.{and_left, or_cases, or_fails_
 use Rattle.floyd_cparse_types.proofs.TypeSets.{begins_specs, begins_dtor, begins_dtor_kind, specifier_dtor, more_specs, more_specifier, mark_ends, is_specifier_kind}
 use Rattle.floyd_cparse_types.proofs.TypeExact.{InnerExact, meant_taken, meant_blamed, offered_place, closing_place}
 use Rattle.floyd_cparse_types.proofs.DeclaratorExact.{within_exact}
-use Rattle.floyd_cparse_statements.proofs.BlockExact.{block_items_exact, statements_exact}
+use Rattle.floyd_cparse_statements.proofs.BlockExact.{block_items_exact}
+use Rattle.floyd_cparse_statements.proofs.DepthExact.{statements_exact}
 use Rattle.floyd_cparse.proofs.UnitSets.{more_value_end, more_init, more_values, separator_ends, last_comma_ends, values_end_last, values_end_last_blamed, values_end_meant, more_typedefs, typedefs_end_meant, more_global_end, more_global, more_globals, comma_ends_global, globals_end_taken, globals_end_meant, specs_words}
 
 -- what the readers of initial data keep to

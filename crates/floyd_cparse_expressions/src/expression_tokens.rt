@@ -5,7 +5,7 @@ ghost use Rattle.floyd_cparse_tokens.specs.Tokens.{is_there};
 ghost use Rattle.floyd_cparse_expressions.specs.ExpressionClauses as r;
 ghost use Rattle.floyd_grammar.specs.ParseClauses.{leads};
 
-use crate::operators::{assigning, binary_op, member_op, prefix_op, step_op};
+use crate::operators::{assignment_of, binary_op, member_op, prefix_op, step_op};
 use crate::values::{
     Chain, Comma, Ending, Form, Infix, Operand, OperandStart, PostfixStart, PrefixStart, Prefixes,
 };
@@ -88,7 +88,7 @@ fn goes_on(sight: &Sight<'_>, end: Ending) -> bool
     goes_on_unary(sight, end)
         || binary_op(sight).is_some()
         || sight.is_mark(Punctuator::Question)
-        || (assigning(sight).is_some() && !end.is_wide())
+        || (assignment_of(sight).is_some() && !end.is_wide())
 }
 
 fn is_separator(sight: &Sight<'_>, comma: Comma) -> bool
@@ -284,7 +284,7 @@ pub(crate) fn leads_assignment(reader: &Reader<'_>, chain: &Chain) -> bool
     ensures { result ≡ leads (r.begins_assignment chain.now) reader.now }
 {
     match reader.peek() {
-        Ok(sight) => assigning(&sight).is_some() && !chain.last.end.is_wide(),
+        Ok(sight) => assignment_of(&sight).is_some() && !chain.last.end.is_wide(),
         Err(_) => false,
     }
 }

@@ -57,7 +57,7 @@ fn assign_op(sight: &Sight<'_>) -> Option<Option<IntOp>>
     }
 }
 
-pub(crate) fn assigning(sight: &Sight<'_>) -> Option<Assigning>
+pub(crate) fn assignment_of(sight: &Sight<'_>) -> Option<Assigning>
     ensures { result ≡ e.assigning_of sight.now }
 {
     match assign_op(sight) {

@@ -9,7 +9,7 @@ use crate::expression_tokens::{
     after_expression, after_unary, behind_prefix, infix, is_prefix_at, operand_start,
     postfix_start, prefix_start,
 };
-use crate::operators::assigning;
+use crate::operators::assignment_of;
 use crate::values::{
     Arguments, Assigning, Chain, Comma, EffectNext, Ending, Infix, Operand, OperandStart,
     PostfixStart, PrefixStart,
@@ -173,8 +173,8 @@ pub(crate) fn take_assign(
     if end.is_wide() {
         return reader.take(Err(UNEXPECTED));
     }
-    let assigning = assigning(&sight);
-    reader.take(sight.offer(room, end.count as u64, assigning))
+    let found = assignment_of(&sight);
+    reader.take(sight.offer(room, end.count as u64, found))
 }
 
 pub(crate) fn take_argument_comma(
@@ -264,7 +264,7 @@ pub(crate) fn take_effect(
     ensures { Gives result reader.new (one (e.effect_token types.now comma room (λ s. place_if (is_mark end s) s) x.now) reader.old) }
 {
     let sight = reader.peek()?;
-    if let Some(by) = assigning(&sight) {
+    if let Some(by) = assignment_of(&sight) {
         if sight.is_deep(room, x.end.count as u64) {
             return reader.take(Err(TOO_DEEP));
         }

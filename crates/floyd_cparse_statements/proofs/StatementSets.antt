@@ -46,24 +46,28 @@ more_statement x s = is_taken_else x.takes_else s
 -- the first tokens of statements that are no effects, by their kind alone
 abbrev pub is_start_kind : TokenKind → Bool
 is_start_kind kind =
-    is_mark_kind p.OpenBrace kind || is_mark_kind p.Semicolon kind || is_word_kind w.If kind || is_word_kind w.While kind || is_word_kind w.Do kind || is_word_kind w.For kind || is_word_kind w.Break kind || is_word_kind w.Continue kind || is_word_kind w.Return kind
+    is_mark_kind p.OpenBrace kind || is_mark_kind p.Semicolon kind || is_word_kind w.If kind || is_word_kind w.While kind || is_word_kind w.Do kind || is_word_kind w.For kind || is_word_kind w.Switch kind || is_word_kind w.Break kind || is_word_kind w.Continue kind || is_word_kind w.Return kind
 
 pub start_by_kind : (s : Sight) → is_there (start_of_statement s) ≡ true → is_start_kind s.token.kind ≡ true
-start_by_kind s e = go (is_mark p.OpenBrace s) (is_mark p.Semicolon s) (is_word w.If s) (is_word w.While s) (is_word w.Do s) (is_word w.For s) (is_word w.Break s) (is_word w.Continue s) (is_word w.Return s) e
+start_by_kind s e = go (is_mark p.OpenBrace s) (is_mark p.Semicolon s) (is_word w.If s) (is_word w.While s) (is_word w.Do s) (is_word w.For s) (is_word w.Switch s) (is_word w.Break s) (is_word w.Continue s) (is_word w.Return s) e
   where
-    go : (a b c d f g h i j : Bool)
-        → is_there (if a then Some start.Block else if b then Some start.Empty else if c then Some (start.If s.token.place) else if d then Some (start.While s.token.place) else if f then Some start.Do else if g then Some (start.For s.token.place) else if h then Some start.Break else if i then Some start.Continue else if j then Some (start.Return s.token.place) else None) ≡ true
-        → (a || b || c || d || f || g || h || i || j) ≡ true
-    go true b c d f g h i j q = refl
-    go false true c d f g h i j q = refl
-    go false false true d f g h i j q = refl
-    go false false false true f g h i j q = refl
-    go false false false false true g h i j q = refl
-    go false false false false false true h i j q = refl
-    go false false false false false false true i j q = refl
-    go false false false false false false false true j q = refl
-    go false false false false false false false false true q = refl
-    go false false false false false false false false false q = absurd (true≢false (sym q))
+    leaving : (h i j : Bool) → is_there (if h then Some start.Break else if i then Some start.Continue else if j then Some (start.Return s.token.place) else None) ≡ true → (h || i || j) ≡ true
+    leaving true i j q = refl
+    leaving false true j q = refl
+    leaving false false true q = refl
+    leaving false false false q = absurd (true≢false (sym q))
+
+    go : (a b c d f g m h i j : Bool)
+        → is_there (if a then Some start.Block else if b then Some start.Empty else if c then Some (start.If s.token.place) else if d then Some (start.While s.token.place) else if f then Some start.Do else if g then Some (start.For s.token.place) else if m then Some (start.Switch s.token.place) else if h then Some start.Break else if i then Some start.Continue else if j then Some (start.Return s.token.place) else None) ≡ true
+        → (a || b || c || d || f || g || m || h || i || j) ≡ true
+    go true b c d f g m h i j q = refl
+    go false true c d f g m h i j q = refl
+    go false false true d f g m h i j q = refl
+    go false false false true f g m h i j q = refl
+    go false false false false true g m h i j q = refl
+    go false false false false false true m h i j q = refl
+    go false false false false false false true h i j q = refl
+    go false false false false false false false h i j q = leaving h i j q
 
 start_unary_kinds : (kind : TokenKind) → (is_unary_kind kind && is_start_kind kind) ≡ false
 start_unary_kinds (k.Punctuator p.Semicolon) = refl

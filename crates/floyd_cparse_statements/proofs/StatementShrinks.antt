@@ -1,19 +1,27 @@
 -- Readers of the items of a block take tokens; what is barred, and what stands one level further in.
-use Rattle.std.proofs.Common.{◌≡◌, ℕ, zero, suc, pred, ◌-◌, ◌<◌, Bool, true, false, not, ◌||◌, List, [], ◌∷◌, length, Ok, Err, refl, sym, true≢false, sub-one}
+use Rattle.std.proofs.Common.{◌≡◌, ℕ, zero, suc, pred, ◌-◌, ◌<◌, Bool, true, false, not, ◌||◌, List, [], ◌∷◌, length, Result, Ok, Err, refl, sym, ◌∙◌, subst, true≢false, sub-one}
 use Rattle.std.specs.Prelude.{Option, Some, None}
 use Rattle.floyd_text.specs.declared.place.Place.{Place}
+use Rattle.floyd_grammar.specs.declared.stop.Stop.{Stop}
+use Rattle.floyd_grammar.specs.GivesClauses.{Gives}
 use Rattle.floyd_grammar.specs.ParseClauses.{Parser, Read, one, pure, bind, ◌>>=◌, leads, barring, stopped_at}
 use Rattle.floyd_cparse_trees.specs.declared.expressions.CExpr.{CExpr}
+use Rattle.floyd_cparse_trees.specs.declared.statements.SwitchCase.{SwitchCase}
+use Rattle.floyd_cparse_trees.specs.declared.statements.SwitchLabel.{SwitchLabel}
 use Rattle.floyd_cparse_statements.specs.declared.values.BlockItems.{BlockItems}
 use Rattle.floyd_cparse_expressions.specs.declared.values.Comma.TheVariants as comma
 use Rattle.floyd_cparse_statements.specs.declared.values.ForHead.{ForHead}
 use Rattle.floyd_cparse_statements.specs.declared.values.ReadStatement.{ReadStatement}
 use Rattle.floyd_cparse_expressions.specs.Expressions.{close_paren, open_token}
 use Rattle.floyd_cparse_tokens.specs.SeenClauses.{take_as}
-use Rattle.floyd_cparse_statements.specs.Statements.{comma_token, begins_declaration, no_declaration, is_taken_else, taken_else, semicolon, for_of}
-use Rattle.floyd_cparse_statements.specs.StatementClauses.{barred_next, begins_item, next_local, next_item, for_effect, value, for_parts, for_head, for_statement, statement, statements, no_statement}
+use Rattle.floyd_cparse_statements.specs.Statements.{comma_token, begins_declaration, no_declaration, is_taken_else, taken_else, no_case_item, is_first, semicolon, for_of}
+use Rattle.floyd_cparse_statements.specs.Labels.{is_label_word}
+use Rattle.floyd_cparse_statements.specs.LabelClauses.{switch_label}
+use Rattle.floyd_cparse_statements.specs.StatementClauses.{barred_next, begins_item, begins_case_item, next_local, next_item, next_case_item, switch_case, for_effect, value, for_parts, for_head, for_statement, statement, statements, no_statement}
 use Rattle.floyd_cparse_tokens.specs.Tokens.{Sight, Types, without_room}
-use Rattle.floyd_cparse_statements.proofs.BlockExact.{statements_exact, block_item_eats}
+use Rattle.floyd_cparse_statements.proofs.BlockExact.{block_item_eats}
+use Rattle.floyd_cparse_statements.proofs.SwitchExact.{next_case_item_eats, switch_case_eats}
+use Rattle.floyd_cparse_statements.proofs.DepthExact.{statements_exact}
 use Rattle.floyd_cparse_tokens.proofs.Shrinks.{Eats, one_eats, then_eats, exact_shrinks}
 use Rattle.floyd_cparse_statements.proofs.StatementExact.{local_exact}
 
@@ -55,6 +63,17 @@ passes_else takes s false false e t = rw e refl
 pub item_passes : {A : Type 0} (all : BlockItems) (p : Parser Sight A) (ts : List Sight) → leads (begins_item all) ts ≡ true → barring (taken_else all.takes_else) p ts ≡ p ts
 item_passes all p [] e = absurd (true≢false (sym e))
 item_passes all p (t ∷ ts) e = sym (passed_gives (taken_else all.takes_else) p (t ∷ ts) (passes_else all.takes_else t _ (is_taken_else all.takes_else t) refl e))
+
+passes_case_item : (takes : Bool) (s : Sight) (a b : Bool) → (is_label_word s || is_taken_else takes s) ≡ b → not (a || b) ≡ true → no_case_item takes s ≡ None
+passes_case_item takes s true b e t = absurd (true≢false (sym t))
+passes_case_item takes s false true e t = absurd (true≢false (sym t))
+passes_case_item takes s false false e t = rw e refl
+
+-- nor is a statement behind a label
+pub case_item_passes : {A : Type 0} (all : BlockItems) (p : Parser Sight A) (ts : List Sight) → leads (begins_case_item all) ts ≡ true → barring (no_case_item all.takes_else) p ts ≡ p ts
+case_item_passes all p [] e = absurd (true≢false (sym e))
+case_item_passes all p (t ∷ ts) e =
+    sym (passed_gives (no_case_item all.takes_else) p (t ∷ ts) (passes_case_item all.takes_else t _ (is_label_word t || is_taken_else all.takes_else t) refl e))
 
 -- statements where no level is left, and where one is
 pub statements_none : (types : Types) (room : ℕ) → room ≡ 0 → statements types room ≡ one (λ s. Err (without_room 0 s))
@@ -112,3 +131,18 @@ module _ (types : Types) (room : ℕ) where
   pub next_item_eats : (all : BlockItems) → Eats (next_item types (pred room) (statements types room) all)
   unfolding next_item
   next_item_eats all = barring_eats (taken_else all.takes_else) (block_item_eats types (pred room) room (statements types room) _ (statements_exact types room))
+
+  pub case_item_eats : (all : BlockItems) → Eats (next_case_item types (statements types room) all)
+  case_item_eats all = next_case_item_eats types (pred room) room (statements types room) _ (statements_exact types room) all
+
+  pub case_eats : (first : Bool) → Eats (switch_case types (pred room) (statements types room) first)
+  case_eats first = switch_case_eats types (pred room) room (statements types room) _ (statements_exact types room) first
+
+  -- whether a case is the first one
+  pub gives_case : (result : Result SwitchCase Stop) (first : Bool) (all : List SwitchCase) (ts r : List Sight) → first ≡ is_first all
+      → Gives result r (switch_case types (pred room) (statements types room) first ts) → Gives result r (switch_case types (pred room) (statements types room) (is_first all) ts)
+  gives_case result first all ts r e g = subst (λ (z : Bool). Gives result r (switch_case types (pred room) (statements types room) z ts)) e g
+
+  -- its label stands one level further out than its statements
+  pub gives_label : (result : Result SwitchLabel Stop) (first : Bool) (n : ℕ) (ts r : List Sight) → n ≡ room - 1 → Gives result r (switch_label types n first ts) → Gives result r (switch_label types (pred room) first ts)
+  gives_label result first n ts r e g = subst (λ (z : ℕ). Gives result r (switch_label types z first ts)) (e ∙ sub-one room) g

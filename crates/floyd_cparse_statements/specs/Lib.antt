@@ -1,2 +1,4 @@
+pub mod Labels
 pub mod Statements
+pub mod LabelClauses
 pub mod StatementClauses

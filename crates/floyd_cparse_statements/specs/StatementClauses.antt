@@ -1,5 +1,5 @@
 -- Readers of statements, of the shape of their grammar. They decide by the next token.
-use Rattle.std.specs.Prelude.{ℕ, zero, suc, ◌+◌, ◌-◌, pred, Bool, not, ◌&&◌, ◌||◌, Option, Some, None, Err, List, [], ◌∷◌}
+use Rattle.std.specs.Prelude.{ℕ, zero, suc, ◌+◌, ◌-◌, pred, Bool, not, ◌&&◌, ◌||◌, if◌then◌else◌, Option, Some, None, Err, List, [], ◌∷◌}
 use Rattle.floyd_text.specs.declared.place.Place.{Place}
 use Rattle.floyd_lex.specs.declared.kinds.Punctuator.TheVariants as p
 use Rattle.floyd_lex.specs.declared.kinds.Keyword.TheVariants as w
@@ -7,6 +7,7 @@ use Rattle.floyd_cparse_trees.specs.declared.expressions.CExpr.{CExpr}
 use Rattle.floyd_cparse_trees.specs.declared.statements.BlockItem.{BlockItem}
 use Rattle.floyd_cparse_trees.specs.declared.statements.CStatement.TheVariants as s
 use Rattle.floyd_cparse_trees.specs.declared.statements.LocalDeclaration.{LocalDeclaration}
+use Rattle.floyd_cparse_trees.specs.declared.statements.SwitchCase.{SwitchCase}
 use Rattle.floyd_cparse_statements.specs.declared.values.BlockItems.{BlockItems}
 use Rattle.floyd_cparse_expressions.specs.declared.values.Comma.{Comma}
 use Rattle.floyd_cparse_expressions.specs.declared.values.Comma.TheVariants as comma
@@ -27,7 +28,9 @@ use Rattle.floyd_cparse_tokens.specs.Tokens.{is_there}
 use Rattle.floyd_cparse_types.specs.TypeClauses.{within}
 use Rattle.floyd_cparse_expressions.specs.Expressions.{Whole, close_paren, open_token}
 use Rattle.floyd_cparse_expressions.specs.ExpressionClauses.{nested, effect}
-use Rattle.floyd_cparse_statements.specs.Statements.{label, begins_declaration, no_declaration, list_of_values, is_taken_else, taken_else, semicolon, comma_token, equal_token, brace_end, ending_token, value_end, semicolon_token, while_token, start_of_statement, statement_token, else_token, locals_end, tree_of, some_tree, local_with, local_alone, first_local, plus_local, declared, declaration_item, statement_item, no_items, plus_item, items_of, whole_statement, block, effect_of, if_alone, if_else, while_of, do_of, for_of, return_of}
+use Rattle.floyd_cparse_statements.specs.Labels.{is_label_word}
+use Rattle.floyd_cparse_statements.specs.LabelClauses.{switch_label}
+use Rattle.floyd_cparse_statements.specs.Statements.{label, begins_declaration, no_declaration, list_of_values, is_taken_else, taken_else, semicolon, comma_token, equal_token, brace_end, no_case_item, is_first, brace_token, case_of, plus_case, switch_of, ending_token, value_end, semicolon_token, while_token, start_of_statement, statement_token, else_token, locals_end, tree_of, some_tree, local_with, local_alone, first_local, plus_local, declared, declaration_item, statement_item, no_items, plus_item, items_of, whole_statement, block, effect_of, if_alone, if_else, while_of, do_of, for_of, return_of}
 
 -- the cause for which the next token is barred
 abbrev pub barred_next : (Sight → Option ℕ) → List Sight → Option ℕ
@@ -39,6 +42,12 @@ is_ending ending s = is_there (ending s)
 
 abbrev pub begins_item : BlockItems → Sight → Bool
 begins_item all s = not (is_mark p.CloseBrace s || is_taken_else all.takes_else s)
+
+abbrev pub begins_case_item : BlockItems → Sight → Bool
+begins_case_item all s = not (is_mark p.CloseBrace s || (is_label_word s || is_taken_else all.takes_else s))
+
+abbrev pub begins_case : List SwitchCase → Sight → Bool
+begins_case all s = if is_first all then not (is_mark p.CloseBrace s) else is_label_word s
 
 abbrev pub begins_else : ReadStatement → Sight → Bool
 begins_else body s = is_word w.Else s && not body.takes_else
@@ -139,6 +148,26 @@ module _ (types : Types) where
     _ ← one brace_end
     pure (items_of all)
 
+  -- label { stmt }
+  unfoldable pub next_case_item : Parser Sight ReadStatement → BlockItems → Parser Sight ReadItem
+  next_case_item stmt all = barring (no_case_item all.takes_else) (stated_item stmt)
+
+  abbrev pub case_items : Parser Sight ReadStatement → Parser Sight BlockItems
+  case_items stmt = folded begins_case_item plus_item (next_case_item stmt) no_items
+
+  unfoldable pub switch_case : ℕ → Parser Sight ReadStatement → Bool → Parser Sight SwitchCase
+  switch_case room stmt first = switch_label types room first >>= λ label. case_items stmt >>= λ all. pure (case_of label all)
+
+  -- { label { stmt } } "}"
+  abbrev pub all_cases : ℕ → Parser Sight ReadStatement → Parser Sight (List SwitchCase)
+  all_cases room stmt = folded begins_case plus_case (λ all. switch_case room stmt (is_first all)) []
+
+  unfoldable pub switch_cases : ℕ → Parser Sight ReadStatement → Parser Sight (List SwitchCase)
+  switch_cases room stmt = do
+    all ← all_cases room stmt
+    _ ← one brace_end
+    pure all
+
   abbrev pub unlabelled : ℕ → Parser Sight CExpr
   unlabelled room = barring label (effect types room comma.Plain semicolon)
 
@@ -181,6 +210,14 @@ module _ (types : Types) where
       body ← inner
       pure (for_of place first condition third body)
 
+    -- "(" expr ")" "{" { label { stmt } } "}"
+    unfoldable pub switch_statement : Place → Parser Sight ReadStatement
+    switch_statement place = do
+      value ← parenthesised room 1
+      _ ← one (brace_token types room 1)
+      cases ← switch_cases (pred (pred room)) second
+      pure (switch_of place value cases)
+
     unfoldable pub after_start : StatementStart → Parser Sight ReadStatement
     after_start start.Block = block_items (pred room) inner >>= λ items. pure (block items)
     after_start start.Empty = pure (whole_statement s.Empty)
@@ -188,6 +225,7 @@ module _ (types : Types) where
     after_start (start.While place) = while_statement place
     after_start start.Do = do_statement
     after_start (start.For place) = for_statement place
+    after_start (start.Switch place) = switch_statement place
     after_start start.Break = one (semicolon_token types room 0) >> pure (whole_statement s.Break)
     after_start start.Continue = one (semicolon_token types room 0) >> pure (whole_statement s.Continue)
     after_start (start.Return place) = value room comma.Plain semicolon >>= λ x. pure (return_of place x)

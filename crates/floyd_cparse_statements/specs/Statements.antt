@@ -1,9 +1,10 @@
--- The grammar of statements. `room` is left where a statement begins.
+-- The grammar of statements. Labels are in Labels. `room` is left where a statement begins.
 --
 --   block = "{" { specs dtor ["=" rhs] {"," dtor ["=" rhs]} ";" | stmt } "}"
 --   stmt  = block | ";" | effect ";" | "if" "(" expr ")" stmt ["else" stmt]
 --         | "while" "(" expr ")" stmt | "do" stmt "while" "(" expr ")" ";"
 --         | "for" "(" [effect] ";" [expr] ";" [effect] ")" stmt
+--         | "switch" "(" expr ")" "{" { label { stmt } } "}"
 --         | "break" ";" | "continue" ";" | "return" [rhs] ";"
 use Rattle.std.specs.Prelude.{ℕ, zero, suc, ◌+◌, ◌-◌, pred, Bool, true, false, not, ◌&&◌, ◌||◌, if◌then◌else◌, Option, Some, None, Result, Err, List, [], ◌∷◌, ◌++◌}
 use Rattle.floyd_text.specs.declared.place.Place.{Place}
@@ -16,6 +17,8 @@ use Rattle.floyd_cparse_trees.specs.declared.statements.BlockItem.TheVariants as
 use Rattle.floyd_cparse_trees.specs.declared.statements.CStatement.{CStatement}
 use Rattle.floyd_cparse_trees.specs.declared.statements.CStatement.TheVariants as s
 use Rattle.floyd_cparse_trees.specs.declared.statements.LocalDeclaration.{LocalDeclaration}
+use Rattle.floyd_cparse_trees.specs.declared.statements.SwitchCase.{SwitchCase}
+use Rattle.floyd_cparse_trees.specs.declared.statements.SwitchLabel.{SwitchLabel}
 use Rattle.floyd_cparse_statements.specs.declared.values.BlockItems.{BlockItems}
 use Rattle.floyd_cparse_expressions.specs.declared.values.Comma.{Comma}
 use Rattle.floyd_cparse_expressions.specs.declared.values.Comma.TheVariants as comma
@@ -34,6 +37,7 @@ use Rattle.floyd_cparse_statements.specs.declared.values.StatementStart.TheVaria
 use Rattle.floyd_cparse_tokens.specs.Tokens.{without_room, Sight, Types, is_mark, is_word, is_name, next_is, begins_type, unexpected, left_out, too_deep, is_deep, demand, found_or, place_if}
 use Rattle.floyd_cparse_types.specs.Types.{within, after_declarator}
 use Rattle.floyd_cparse_expressions.specs.Expressions.{Whole, nested, effect, after_expression, close_paren, open_token}
+use Rattle.floyd_cparse_statements.specs.Labels.{is_label_word, switch_label}
 
 -- a name before ":" is a label
 abbrev pub is_label : Sight → Bool
@@ -59,6 +63,14 @@ is_taken_else takes_else s = takes_else && is_word w.Else s
 
 abbrev pub taken_else : Bool → Sight → Option ℕ
 taken_else takes_else s = if is_taken_else takes_else s then Some unexpected else None
+
+-- A statement behind a label begins neither with a label nor with an `else` that belongs to the statement before.
+abbrev pub no_case_item : Bool → Sight → Option ℕ
+no_case_item takes_else s = if is_label_word s || is_taken_else takes_else s then Some unexpected else None
+
+abbrev pub is_first : List SwitchCase → Bool
+is_first [] = true
+is_first (c ∷ cs) = false
 
 -- Tokens.
 abbrev pub semicolon : Sight → Option Place
@@ -102,6 +114,7 @@ start_of_statement s =
     else if is_word w.While s then Some (start.While s.token.place)
     else if is_word w.Do s then Some start.Do
     else if is_word w.For s then Some (start.For s.token.place)
+    else if is_word w.Switch s then Some (start.Switch s.token.place)
     else leaving_start s
 
 -- where it is too deep, the effect that might begin there refuses it
@@ -111,6 +124,9 @@ statement_token room s = if is_deep room 0 s then Err unexpected else found_or u
 -- An `else` belongs to the nearest `if` that can take it.
 abbrev pub else_token : ReadStatement → Sight → Result Place ℕ
 else_token body s = found_or unexpected (place_if (is_word w.Else s && not body.takes_else) s)
+
+abbrev pub brace_token : Types → ℕ → ℕ → Sight → Result Place ℕ
+brace_token types room count s = demand types room count unexpected s (place_if (is_mark p.OpenBrace s) s)
 
 abbrev pub after_local : Types → ℕ → LocalEnd → Sight → ℕ
 after_local types room (end.Declarator declarator) s =
@@ -180,6 +196,15 @@ do_of body place condition = whole_statement (s.Do body.tree place condition)
 
 abbrev pub for_of : Place → Option CExpr → Option CExpr → Option CExpr → ReadStatement → ReadStatement
 for_of place first condition third body = record { tree = s.For place first condition third body.tree; takes_else = body.takes_else }
+
+abbrev pub case_of : SwitchLabel → BlockItems → SwitchCase
+case_of label all = record { label = label; body = s.Block all.items }
+
+abbrev pub plus_case : List SwitchCase → SwitchCase → List SwitchCase
+plus_case all next = all ++ next ∷ []
+
+abbrev pub switch_of : Place → CExpr → List SwitchCase → ReadStatement
+switch_of place value cases = whole_statement (s.Switch place value cases)
 
 abbrev pub return_of : Place → Option CExpr → ReadStatement
 return_of place value = whole_statement (s.Return place value)
@@ -260,6 +285,23 @@ module _ (types : Types) where
     _ ← one brace_end
     pure (items_of all)
 
+  -- label { stmt }
+  abbrev pub next_case_item : Phrase Sight ReadStatement → BlockItems → Phrase Sight ReadItem
+  next_case_item stmt all = barring (no_case_item all.takes_else) (stated_item stmt)
+
+  abbrev pub case_items : Phrase Sight ReadStatement → Phrase Sight BlockItems
+  case_items stmt = folded plus_item (next_case_item stmt) no_items
+
+  abbrev pub switch_case : ℕ → Phrase Sight ReadStatement → Bool → Phrase Sight SwitchCase
+  switch_case room stmt first = switch_label types room first >>= λ label. case_items stmt >>= λ all. pure (case_of label all)
+
+  -- { label { stmt } } "}"
+  abbrev pub switch_cases : ℕ → Phrase Sight ReadStatement → Phrase Sight (List SwitchCase)
+  switch_cases room stmt = do
+    all ← folded plus_case (λ all. switch_case room stmt (is_first all)) []
+    _ ← one brace_end
+    pure all
+
   -- `room` is left here, `inner` is a statement inside one word or brace more, and `second` inside two.
   module _ (room : ℕ) (inner second : Phrase Sight ReadStatement) where
     -- ["else" stmt]
@@ -295,6 +337,14 @@ module _ (types : Types) where
       body ← inner
       pure (for_of place first condition third body)
 
+    -- "(" expr ")" "{" { label { stmt } } "}"
+    abbrev pub switch_statement : Place → Phrase Sight ReadStatement
+    switch_statement place = do
+      value ← parenthesised room 1
+      _ ← one (brace_token types room 1)
+      cases ← switch_cases (pred (pred room)) second
+      pure (switch_of place value cases)
+
     abbrev pub after_start : StatementStart → Phrase Sight ReadStatement
     after_start start.Block = block_items (pred room) inner >>= λ items. pure (block items)
     after_start start.Empty = pure (whole_statement s.Empty)
@@ -302,6 +352,7 @@ module _ (types : Types) where
     after_start (start.While place) = while_statement place
     after_start start.Do = do_statement
     after_start (start.For place) = for_statement place
+    after_start (start.Switch place) = switch_statement place
     after_start start.Break = one (semicolon_token types room 0) >> pure (whole_statement s.Break)
     after_start start.Continue = one (semicolon_token types room 0) >> pure (whole_statement s.Continue)
     after_start (start.Return place) = value room comma.Plain semicolon >>= λ x. pure (return_of place x)

@@ -1,6 +1,7 @@
 //! Statements and local declarations of C read into syntax trees.
 #![tactic(auto)]
 
+mod read_labels;
 mod read_locals;
 mod read_statements;
 mod take_statements;

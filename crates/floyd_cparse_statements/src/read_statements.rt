@@ -6,18 +6,19 @@ ghost use Rattle.floyd_cparse_statements.specs.Statements as s;
 ghost use Rattle.floyd_cparse_statements.specs.StatementClauses as r;
 ghost use Rattle.floyd_cparse_statements.specs.StatementClauses.{statements, block_items};
 
+use crate::read_labels::read_label;
 use crate::read_locals::{
     read_condition, read_do_condition, read_for_head, read_local_declaration, read_value,
     whole_statement,
 };
 use crate::take_statements::{
-    bars_label, leads_declaration, leads_else, leads_item, leads_started, take_else,
-    take_semicolon, take_start,
+    bars_label, is_first, leads_case, leads_case_item, leads_declaration, leads_else, leads_item,
+    leads_started, take_brace, take_else, take_semicolon, take_start,
 };
 use crate::values::{ForHead, ReadItem, ReadStatement, StatementStart};
 use floyd_cparse_expressions::{Comma, read_effect};
 use floyd_cparse_tokens::{Reader, TypeNames};
-use floyd_cparse_trees::{BlockItem, CExpr, CStatement};
+use floyd_cparse_trees::{BlockItem, CExpr, CStatement, SwitchCase};
 use floyd_cparse_types::take_brace_end;
 use floyd_grammar::Stop;
 use floyd_lex::Punctuator;
@@ -46,6 +47,53 @@ pub fn read_block_items(
     }
     take_brace_end(reader)?;
     Ok(items)
+}
+
+/// The cases of a switch, and `}`.
+#[cycle(statements)]
+#[tactic(auto, unfolding(crate::specs::StatementClauses::switch_cases))]
+fn read_switch_cases(
+    alloc: Global,
+    reader: &mut Reader<'_>,
+    types: &TypeNames,
+    room: u32,
+) -> Result<Items<SwitchCase>, Stop>
+    requires { room ≤ 200 }
+    ensures { Gives result reader.new (r.switch_cases types.now (pred room) (statements types.now room) reader.old) }
+{
+    let mut cases = Items::new(alloc);
+    'each: while leads_case(reader, &cases) {
+        let first = is_first(&cases);
+        let next = read_switch_case(alloc, reader, types, room, first)?;
+        cases.push(next)?;
+    }
+    take_brace_end(reader)?;
+    Ok(cases)
+}
+
+/// `label { stmt }`
+#[cycle(statements)]
+#[tactic(auto, unfolding(crate::specs::StatementClauses::switch_case))]
+fn read_switch_case(
+    alloc: Global,
+    reader: &mut Reader<'_>,
+    types: &TypeNames,
+    room: u32,
+    first: bool,
+) -> Result<SwitchCase, Stop>
+    requires { room ≤ 200 }
+    ensures { Gives result reader.new (r.switch_case types.now (pred room) (statements types.now room) first reader.old) }
+{
+    let label = read_label(alloc, reader, types, room.saturating_sub(1), first)?;
+    let mut items = Items::new(alloc);
+    let mut takes_else = false;
+    'each: while leads_case_item(reader, takes_else) {
+        let next = read_statement(alloc, reader, types, room)?;
+        items.push(BlockItem::Statement(next.tree.into_inner()))?;
+        takes_else = next.takes_else;
+    }
+    let body = Boxed::new(alloc, CStatement::Block(items))?;
+    Ok(SwitchCase { label, body })
 }
 
 /// `specs dtor .. ";" | stmt`
@@ -162,7 +210,7 @@ fn read_unlabelled(
 
 /// What follows the word or mark with which a statement begins.
 #[cycle(statements)]
-#[tactic(auto, unfolding(crate::specs::StatementClauses::after_start, crate::specs::StatementClauses::while_statement, crate::specs::StatementClauses::do_statement))]
+#[tactic(auto, unfolding(crate::specs::StatementClauses::after_start, crate::specs::StatementClauses::while_statement, crate::specs::StatementClauses::do_statement, crate::specs::StatementClauses::switch_statement))]
 fn read_started(
     alloc: Global,
     reader: &mut Reader<'_>,
@@ -193,6 +241,12 @@ fn read_started(
             let head = read_for_head(alloc, reader, types, room)?;
             let body = read_statement(alloc, reader, types, room)?;
             Ok(for_of(alloc, place, head, body)?)
+        }
+        StatementStart::Switch(place) => {
+            let value = read_condition(alloc, reader, types, room)?;
+            take_brace(reader, types, room, 1)?;
+            let cases = read_switch_cases(alloc, reader, types, room.saturating_sub(1))?;
+            Ok(switch_of(alloc, place, value, cases)?)
         }
         StatementStart::Break => {
             take_semicolon(reader, types, room, 0)?;
@@ -326,6 +380,24 @@ fn for_of(
         tree: Boxed::new(alloc, tree)?,
         takes_else,
     })
+}
+
+fn switch_of(
+    alloc: Global,
+    place: Place,
+    value: Boxed<CExpr>,
+    cases: Items<SwitchCase>,
+) -> Result<ReadStatement, AllocError>
+    ensures { IfOk result (λ x. x ≡ s.switch_of place value cases) }
+{
+    whole_statement(
+        alloc,
+        CStatement::Switch {
+            place,
+            value: value.into_inner(),
+            cases,
+        },
+    )
 }
 
 fn unbox(value: Option<Boxed<CExpr>>) -> Option<CExpr>

@@ -6,13 +6,16 @@ ghost use Rattle.floyd_cparse_tokens.specs.Tokens.{is_mark, place_if};
 ghost use Rattle.floyd_grammar.specs.ParseClauses.{leads, one};
 ghost use Rattle.floyd_grammar.specs.GivesClauses.{Gives};
 
+use crate::read_labels::is_label_word;
 use crate::values::{LocalEnd, ReadStatement, StatementStart};
 use floyd_cparse_expressions::{Comma, Operand, after_expression};
 use floyd_cparse_tokens::{LEFT_OUT, Reader, Sight, TOO_DEEP, TypeNames, UNEXPECTED, found_or};
+use floyd_cparse_trees::SwitchCase;
 use floyd_cparse_types::{Declared, after_declarator};
 use floyd_grammar::Stop;
 use floyd_lex::{Keyword, Punctuator};
 use floyd_text::Place;
+use sqlite_items::Items;
 
 /// A name before `:`.
 fn is_label(sight: &Sight<'_>) -> bool
@@ -62,6 +65,8 @@ fn statement_start(sight: &Sight<'_>) -> Option<StatementStart>
         Some(StatementStart::Do)
     } else if sight.is_word(Keyword::For) {
         Some(StatementStart::For(sight.place()))
+    } else if sight.is_word(Keyword::Switch) {
+        Some(StatementStart::Switch(sight.place()))
     } else {
         leaving_start(sight)
     }
@@ -211,6 +216,50 @@ pub(crate) fn leads_item(reader: &Reader<'_>, takes_else: bool) -> bool
         }
         Err(_) => false,
     }
+}
+
+/// A token stands next that is neither `}`, nor a label's, nor an `else` that belongs to the statement before.
+pub(crate) fn leads_case_item(reader: &Reader<'_>, takes_else: bool) -> bool
+    ensures { result ≡ leads (r.begins_case_item (record { items = []; takes_else = takes_else })) reader.now }
+{
+    match reader.peek() {
+        Ok(sight) => {
+            !(sight.is_mark(Punctuator::CloseBrace)
+                || (is_label_word(&sight) || is_taken_else(&sight, takes_else)))
+        }
+        Err(_) => false,
+    }
+}
+
+/// No case of the switch was read so far.
+pub(crate) fn is_first(cases: &Items<SwitchCase>) -> bool
+    ensures { result ≡ s.is_first cases.now }
+{
+    matches!(cases.as_slice(), [])
+}
+
+/// A case begins, or a token stands where the first one must.
+pub(crate) fn leads_case(reader: &Reader<'_>, cases: &Items<SwitchCase>) -> bool
+    ensures { result ≡ leads (r.begins_case cases.now) reader.now }
+{
+    match reader.peek() {
+        Ok(sight) if is_first(cases) => !sight.is_mark(Punctuator::CloseBrace),
+        Ok(sight) => is_label_word(&sight),
+        Err(_) => false,
+    }
+}
+
+pub(crate) fn take_brace(
+    reader: &mut Reader<'_>,
+    types: &TypeNames,
+    room: u32,
+    count: u32,
+) -> Result<Place, Stop>
+    ensures { Gives result reader.new (one (s.brace_token types.now room count) reader.old) }
+{
+    let sight = reader.peek()?;
+    let place = sight.place_if(sight.is_mark(Punctuator::OpenBrace));
+    reader.take(sight.demand(types, room, count as u64, UNEXPECTED, place))
 }
 
 /// For what `{` is refused behind the `=` of a local variable.

@@ -1,9 +1,9 @@
 //! What is read of statements, beside their trees: how they end, and whether an `else` behind them is theirs.
 
 use floyd_cparse_expressions::Ending;
-use floyd_cparse_trees::{BlockItem, CExpr, CStatement, Declarator, LocalDeclarator};
+use floyd_cparse_trees::{BlockItem, CExpr, CStatement, Declarator, Literal, LocalDeclarator};
 use floyd_cparse_types::DeclaratorEnd;
-use floyd_text::Place;
+use floyd_text::{Name, Place};
 use sqlite_items::{Boxed, Items};
 
 /// How a declarator with or without a right side ends.
@@ -54,9 +54,31 @@ pub enum StatementStart {
     While(Place),
     Do,
     For(Place),
+    Switch(Place),
     Break,
     Continue,
     Return(Place),
+}
+
+/// The word with which a label of `switch` begins.
+#[derive(Clone, Copy)]
+pub enum LabelStart {
+    Case,
+    Default(Place),
+}
+
+/// A literal with its text.
+#[derive(Drop)]
+pub struct LabelLiteral {
+    pub literal: Literal,
+    pub text: Name,
+}
+
+/// What stands directly behind `case`.
+#[derive(Drop)]
+pub enum CaseStart {
+    Minus,
+    Literal(LabelLiteral),
 }
 
 /// What stands in the parentheses of `for`.

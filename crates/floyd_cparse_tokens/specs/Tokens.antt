@@ -8,8 +8,8 @@
 -- Names of types in scope are an argument of each production. Only a typedef at the top of a file adds to them, by its
 -- value: the list of the file's declarations and the list of a typedef's declarators carry them on.
 --
--- Depth is two numbers. `room` is 200 less the brackets and the words `if`, `else`, `while`, `do`, `for` and `?` that a
--- token stands inside. It is an argument, goes down by one with each of them, and what stands inside so many that
+-- Depth is two numbers. `room` is 200 less the brackets and the words `if`, `else`, `while`, `do`, `for`, `switch` and `?`
+-- that a token stands inside. It is an argument, goes down by one with each of them, and what stands inside so many that
 -- nothing is left reads nothing: this is what the recursion of the grammar goes down by. `count` is what else counts
 -- before a token. It is an argument of a production, and its value tells the number behind it: the binary and postfix
 -- operators so far in the full expression or declarator, which do not go away when a bracket closes. The prefix
@@ -156,7 +156,6 @@ is_left_out_kind (k.Keyword w.Register) = true
 is_left_out_kind (k.Keyword w.Inline) = true
 is_left_out_kind (k.Keyword w.Restrict) = true
 is_left_out_kind (k.Keyword w.Goto) = true
-is_left_out_kind (k.Keyword w.Switch) = true
 is_left_out_kind (k.Keyword w.Asm) = true
 is_left_out_kind (k.Keyword w.Bool) = true
 is_left_out_kind (k.Punctuator p.Ellipsis) = true
@@ -181,8 +180,8 @@ left_out = 2
 abbrev pub too_deep : ℕ
 too_deep = 3
 
--- Depth. `room` is 200 less the brackets and the words (`if`, `else`, `while`, `do`, `for`, `?`) that a token stands
--- inside, and `count` what else counts before it: operators of its full expression or declarator, and those directly
+-- Depth. `room` is 200 less the brackets and the words (`if`, `else`, `while`, `do`, `for`, `switch`, `?`) that a
+-- token stands inside, and `count` what else counts before it: operators of its full expression or declarator, and those directly
 -- before it. An opening bracket counts itself, and a closing one does not count its own pair.
 abbrev pub is_opening : Sight → Bool
 is_opening s = is_mark p.OpenParen s || is_mark p.OpenBracket s || is_mark p.OpenBrace s

@@ -334,7 +334,6 @@ fn is_left_out_word(word: Keyword) -> bool
         | Keyword::Inline
         | Keyword::Restrict
         | Keyword::Goto
-        | Keyword::Switch
         | Keyword::Asm
         | Keyword::Bool => true,
         _ => false,

@@ -11,7 +11,9 @@ pub use declarations::{
     Typedef,
 };
 pub use expressions::{BinaryOp, CExpr, MemberOp, Prefix, PrefixOp, StepOp};
-pub use statements::{BlockItem, CStatement, LocalDeclaration, LocalDeclarator};
+pub use statements::{
+    BlockItem, CStatement, LocalDeclaration, LocalDeclarator, SwitchCase, SwitchLabel,
+};
 pub use types::{
     Base, Declarator, FieldDeclaration, Identifier, Literal, Parameter, Specifiers, Star, TypeName,
 };

@@ -1,6 +1,6 @@
 use crate::expressions::CExpr;
-use crate::types::{Declarator, Specifiers};
-use floyd_text::Place;
+use crate::types::{Declarator, Literal, Specifiers};
+use floyd_text::{Name, Place};
 use sqlite_items::{Boxed, Items};
 
 /// A declared local variable, with the place of its `=` and its right side.
@@ -86,6 +86,11 @@ pub enum CStatement {
         third: Option<CExpr>,
         body: Boxed<CStatement>,
     },
+    Switch {
+        place: Place,
+        value: CExpr,
+        cases: Items<SwitchCase>,
+    },
     Break,
     Continue,
     Return {
@@ -147,9 +152,58 @@ impl Drop for CStatement {
                 drop(third);
                 drop(body);
             }
+            CStatement::Switch {
+                place: _,
+                value,
+                cases,
+            } => {
+                drop(value);
+                drop(cases);
+            }
             CStatement::Break => {}
             CStatement::Continue => {}
             CStatement::Return { place: _, value } => drop(value),
         }
+    }
+}
+
+/// A label of `switch`.
+pub enum SwitchLabel {
+    /// The literal behind `case`, and its text. It is negative where `-` stands before it.
+    Case {
+        negative: bool,
+        literal: Literal,
+        text: Name,
+    },
+    /// `default`, with its place.
+    Default(Place),
+}
+
+impl Drop for SwitchLabel {
+    fn drop(self) {
+        match self {
+            SwitchLabel::Case {
+                negative: _,
+                literal: _,
+                text,
+            } => drop(text),
+            SwitchLabel::Default(_) => {}
+        }
+    }
+}
+
+/// A label of `switch`, and the statements behind it up to the next label, as a block.
+#[cycle(statements)]
+pub struct SwitchCase {
+    pub label: SwitchLabel,
+    pub body: Boxed<CStatement>,
+}
+
+impl Drop for SwitchCase {
+    #[cycle(drop)]
+    fn drop(self) {
+        let SwitchCase { label, body } = self;
+        drop(label);
+        drop(body);
     }
 }

@@ -134,14 +134,14 @@ fn specifiers_of(base: ReadBase, before: Option<Place>, behind: Option<Place>) -
     ensures { result ≡ t.specifiers_of base before behind }
 {
     match (before, behind) {
-        (None, None) => specified(base.tree, None, base.words),
-        (Some(before), None) => specified(base.tree, Some(before), base.words),
-        (None, Some(behind)) => specified(base.tree, Some(behind), None),
-        (Some(before), Some(_)) => specified(base.tree, Some(before), None),
+        (None, None) => specifiers_with(base.tree, None, base.words),
+        (Some(before), None) => specifiers_with(base.tree, Some(before), base.words),
+        (None, Some(behind)) => specifiers_with(base.tree, Some(behind), None),
+        (Some(before), Some(_)) => specifiers_with(base.tree, Some(before), None),
     }
 }
 
-fn specified(base: Base, constant: Option<Place>, words: Option<IntWords>) -> ReadSpecifiers
+fn specifiers_with(base: Base, constant: Option<Place>, words: Option<IntWords>) -> ReadSpecifiers
     ensures { result ≡ record { tree = record { constant = constant; base = base }; words = words } }
 {
     ReadSpecifiers {

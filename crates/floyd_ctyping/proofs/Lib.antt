@@ -1,3 +1,4 @@
+pub mod ConstantLemmas
 pub mod OperatorLemmas
 pub mod ExpressionLemmas
 pub mod Weights

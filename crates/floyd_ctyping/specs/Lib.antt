@@ -1,3 +1,4 @@
 -- Definitions that contracts cite.
 pub mod Operators
 pub mod Expressions
+pub mod Switches

@@ -155,8 +155,8 @@ pub fn nested_assignment(place: Place, a: &Operand) -> Result<Operand, Halt>
     Err(Halt::Refused(nested_effect(place)))
 }
 
-/// The same name, shared.
-fn shared(tag: Option<&Name>) -> Result<Option<Name>, AllocError>
+/// The same tag, shared.
+fn share_tag(tag: Option<&Name>) -> Result<Option<Name>, AllocError>
     ensures { IfOk result (λ o. o ≡ option_copied tag.entry) }
 {
     match tag {
@@ -170,11 +170,11 @@ fn struct_before(alloc: Global, op: MemberOp, a: &Operand) -> Result<Option<Name
     ensures { IfOk result (λ o. o ≡ struct_before_lem op a.now) }
 {
     match op {
-        MemberOp::Dot => shared(tag_of(&a.ctype)),
+        MemberOp::Dot => share_tag(tag_of(&a.ctype)),
         MemberOp::Arrow => {
             let t = a.value_type(alloc)?;
             match pointee(&t) {
-                Some(to) => shared(tag_of(to)),
+                Some(to) => share_tag(tag_of(to)),
                 None => Ok(None),
             }
         }

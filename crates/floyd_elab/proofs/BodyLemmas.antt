@@ -17,7 +17,7 @@ use Rattle.floyd_elab_expressions.specs.Behind.{put_behind}
 use Rattle.floyd_elab_expressions.specs.declared.progress.Progress.{Progress}
 use Rattle.floyd_elab_statements.specs.Statements.{body}
 use Rattle.floyd_elab.specs.declared.file.File.{File}
-use Rattle.floyd_elab.specs.Units.{parameter_scope, starting, definition, with_body, define_body}
+use Rattle.floyd_elab.specs.Units.{parameter_scope, first_progress, definition, with_body, define_body}
 use Rattle.floyd_elab.specs.Files.{top, define_function}
 use Rattle.floyd_elab.specs.UnitClauses.{without_names, without_tags}
 use Rattle.floyd_elab.specs.TableClauses.{innermost, with_parameter}
@@ -65,7 +65,7 @@ module _ {S : Type 0} where
 -- a body, as a part of its function; the parameters are those that the program lent
 module _ (i : Identifier) (result : CType) (parameters lent : List Local) (same : lent ≡ parameters) (block : CStatement) (file : File) where
   abbrev body_with : List Local → Result (List Stmt × Progress) Refusal
-  body_with ps = body result (parameter_scope ps ∷ top file) block (starting file.tags ps)
+  body_with ps = body result (parameter_scope ps ∷ top file) block (first_progress file.tags ps)
 
   pub bodied_stops : (halt : Halt) → Stops halt (body_with lent) → Stops halt (define_body i result parameters block file)
   bodied_stops Memory e = tt
@@ -92,7 +92,7 @@ module _ (file declarator_name bare : File) (names now : Scopes) (opened : names
 module _ (result : CType) (parameters : List Local) (block : CStatement) (file declarator_name : File) (names : Scopes) (tags : Tags)
     (opened : names ≡ top file) (taken : declarator_name ≡ without_names file) (begun : tags ≡ declarator_name.tags) where
   abbrev body_from : Scopes → Tags → Result (List Stmt × Progress) Refusal
-  body_from scopes tags = body result (parameter_scope parameters ∷ scopes) block (starting tags parameters)
+  body_from scopes tags = body result (parameter_scope parameters ∷ scopes) block (first_progress tags parameters)
 
   pub body_is : body_from names tags ≡ body_from (top file) file.tags
   body_is = ap (λ (scopes : Scopes). body_from scopes tags) opened ∙ ap (body_from (top file)) (begun ∙ ap (λ (f : File). f.tags) taken)

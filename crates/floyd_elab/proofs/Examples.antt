@@ -34,7 +34,7 @@ use Rattle.floyd_elab_expressions.specs.Clight.{pulled_name, kth_name, deref_of,
 use Rattle.floyd_elab_expressions.specs.declared.progress.Progress.{Progress}
 use Rattle.floyd_elab_effects.specs.Effects.{effect}
 use Rattle.floyd_elab_statements.specs.Statements.{statement}
-use Rattle.floyd_elab.specs.Units.{elaboration, starting}
+use Rattle.floyd_elab.specs.Units.{elaboration, first_progress}
 
 abbrev ident : List ℕ → ℕ → Identifier
 ident x n = record { name = x; place = record { file = 1; line = 1; column = n } }
@@ -63,7 +63,7 @@ scopes = ((codes "a", m.Variable (codes "a") int_type kept.Temporary) ∷ (codes
     ∷ ((codes "g", m.Variable (codes "g") int_type kept.Global) ∷ (codes "h", m.Variable (codes "h") int_type kept.Global) ∷ []) ∷ []
 
 abbrev start : Progress
-start = starting (record { structs = []; completed = [] }) []
+start = first_progress (record { structs = []; completed = [] }) []
 
 abbrev statements : Result (List Stmt × Progress) Refusal → Result (List Stmt) Refusal
 statements (Ok r) = Ok r.0

@@ -27,7 +27,7 @@ use Rattle.floyd_elab_expressions.specs.Clight.{pulled_name, deref_of, binary_of
 use Rattle.floyd_elab_expressions.specs.declared.progress.Progress.{Progress}
 use Rattle.floyd_elab_effects.specs.Effects.{effect}
 use Rattle.floyd_elab_data.specs.Contents.{contents}
-use Rattle.floyd_elab.specs.Units.{starting}
+use Rattle.floyd_elab.specs.Units.{first_progress}
 
 abbrev place : ℕ → Place
 place n = record { file = 1; line = 1; column = n }
@@ -72,7 +72,7 @@ abbrev tags : Tags
 tags = record { structs = (codes "s", Some (record { name = codes "first"; ty = int_type } ∷ [])) ∷ []; completed = [] }
 
 abbrev start : Progress
-start = starting tags []
+start = first_progress tags []
 
 abbrev statements : Result (List Stmt × Progress) Refusal → Result (List Stmt) Refusal
 statements (Ok r) = Ok r.0

@@ -1,7 +1,6 @@
 -- Names of the file as the program keeps them.
 use Rattle.std.specs.Prelude.{◌≡◌, ℕ, Bool, ◌||◌, List, [], ◌∷◌, bytes_eq}
 use Rattle.std.specs.List.{list_any}
-use Rattle.floyd_clight.specs.declared.unit.Defined.{Defined}
 use Rattle.floyd_clight.specs.declared.unit.Local.{Local}
 use Rattle.floyd_clight.specs.declared.unit.Variable.{Variable}
 use Rattle.floyd_elab_names.specs.declared.meaning.Meaning.TheVariants as m
@@ -13,12 +12,13 @@ abbrev pub innermost : Scopes → Scope
 innermost [] = []
 innermost (scope ∷ outer) = scope
 
--- whether a variable, or a function with a body, has the name
-abbrev pub is_variable : List ℕ → List Variable → Bool
-is_variable x variables = list_any (λ (v : Variable). bytes_eq x v.name) variables
+-- whether one of the items, each of which has a name, has this one
+abbrev pub is_named : {A : Type 0} → (A → List ℕ) → List ℕ → List A → Bool
+is_named name_of x items = list_any (λ item. bytes_eq x (name_of item)) items
 
-abbrev pub is_body : List ℕ → List Defined → Bool
-is_body x bodies = list_any (λ (f : Defined). bytes_eq x f.name) bodies
+-- whether a variable has the name
+abbrev pub is_variable : List ℕ → List Variable → Bool
+is_variable = is_named (λ (v : Variable). v.name)
 
 -- the names are the same, and one more
 abbrev pub AddsName : List ℕ → List (List ℕ) → List (List ℕ) → Type 0

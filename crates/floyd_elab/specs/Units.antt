@@ -173,8 +173,8 @@ result_of t = (unwrap_or (signature_of t) ([], Void)).1
 abbrev pub parameter_scope : List Local → Scope
 parameter_scope parameters = map (λ (p : Local). (p.name, m.Variable p.name p.ctype kept.Parameter)) parameters
 
-abbrev pub starting : Tags → List Local → Progress
-starting tags parameters = record { tags = tags; drawn = 0; names = map (λ (p : Local). p.name) parameters; temporaries = []; blocks = [] }
+abbrev pub first_progress : Tags → List Local → Progress
+first_progress tags parameters = record { tags = tags; drawn = 0; names = map (λ (p : Local). p.name) parameters; temporaries = []; blocks = [] }
 
 abbrev pub definition : Identifier → CType → List Local → List Stmt → Progress → Defined
 definition i result parameters statements progress = record {
@@ -193,7 +193,7 @@ with_body i result parameters file (Err refusal) = Err refusal
 
 abbrev pub define_body : Identifier → CType → List Local → c.CStatement → Filing (Unit {0})
 define_body i result parameters block =
-    λ file. with_body i result parameters file (body result (parameter_scope parameters ∷ top file) block (starting file.tags parameters))
+    λ file. with_body i result parameters file (body result (parameter_scope parameters ∷ top file) block (first_progress file.tags parameters))
 
 -- A function is in scope in its own body.
 abbrev pub function_with_body : FunctionDefinition → Filing (Unit {0})

@@ -4,7 +4,7 @@ ghost use Rattle.floyd_text.specs.Gives.{Gives};
 ghost use Rattle.floyd_cparse_trees.specs.declared.statements.CStatement.{Block};
 ghost use Rattle.floyd_elab_names.specs.Refusing.{GivesWith};
 ghost use Rattle.floyd_elab_statements.specs.Statements.{body as body_lem};
-ghost use Rattle.floyd_elab.specs.Units.{parameter_scope, starting as starting_lem, definition, define_body as define_body_lem};
+ghost use Rattle.floyd_elab.specs.Units.{parameter_scope, first_progress as first_progress_lem, definition, define_body as define_body_lem};
 ghost use Rattle.floyd_elab.specs.Files.{top, define_function};
 ghost use Rattle.floyd_elab.specs.UnitClauses.{local_names, without_tags};
 ghost use Rattle.floyd_elab.specs.TableClauses.{with_parameter};
@@ -57,8 +57,8 @@ fn names_of_locals(alloc: Global, parameters: &[Local]) -> Result<NameList, Allo
 }
 
 /// What is kept where the body of a function with these parameters begins.
-fn starting(alloc: Global, tags: Tags, parameters: &[Local]) -> Result<Progress, AllocError>
-    ensures { IfOk result (λ progress. progress ≡ starting_lem tags parameters.now) }
+fn first_progress(alloc: Global, tags: Tags, parameters: &[Local]) -> Result<Progress, AllocError>
+    ensures { IfOk result (λ progress. progress ≡ first_progress_lem tags parameters.now) }
 {
     Ok(Progress {
         tags,
@@ -97,10 +97,10 @@ fn body_of(
     parameters: &[Local],
     items: &[BlockItem],
 ) -> Result<(StmtList, Progress), Halt>
-    ensures exact { Gives (λ r. r) result (body_lem result_type.now (parameter_scope parameters.now ∷ names.old) (Block items.now) (starting_lem tags parameters.now)) }
+    ensures exact { Gives (λ r. r) result (body_lem result_type.now (parameter_scope parameters.now ∷ names.old) (Block items.now) (first_progress_lem tags parameters.now)) }
     ensures scopes { OnOk result (names.new ≡ names.old) }
 {
-    let mut progress = starting(alloc, tags, parameters)?;
+    let mut progress = first_progress(alloc, tags, parameters)?;
     let statements = body_statements(alloc, names, result_type, parameters, items, &mut progress)?;
     Ok((statements, progress))
 }
@@ -113,7 +113,7 @@ fn body_in(
     parameters: &[Local],
     items: &[BlockItem],
 ) -> Result<(StmtList, Progress), Halt>
-    ensures exact { Gives (λ r. r) result (body_lem result_type.now (parameter_scope parameters.now ∷ top file.old) (Block items.now) (starting_lem file.old.tags parameters.now)) }
+    ensures exact { Gives (λ r. r) result (body_lem result_type.now (parameter_scope parameters.now ∷ top file.old) (Block items.now) (first_progress_lem file.old.tags parameters.now)) }
     ensures file { OnOk result (file.new ≡ without_tags file.old) }
 {
     let mut names = file.take_names(alloc)?;

@@ -7,8 +7,8 @@ ghost use Rattle.floyd_elab.specs.Units.{empty_file};
 ghost use Rattle.floyd_elab.specs.UnitClauses.{no_tags as no_tags_lem, without_names, without_tags};
 
 use crate::scope::FileScope;
-use crate::tables::{DefinedFunctions, DefinedVariables};
-use floyd_clight::{DeclaredList, VariableList};
+use crate::tables::Definitions;
+use floyd_clight::{DeclaredList, Defined, Variable, VariableList};
 use floyd_ctypes::{CType, StructTable};
 use floyd_elab_names::{Meaning, Names, Tags, same_type};
 use floyd_text::Name;
@@ -22,13 +22,13 @@ pub(crate) struct File {
     /// The names of the file, and what each stands for.
     pub scope: FileScope,
     /// The variables that are defined.
-    pub defined: DefinedVariables,
+    pub defined: Definitions<Variable>,
     /// Each variable where it was first declared.
     pub mentioned: VariableList,
     /// The functions that are declared, in the order of their first declarations.
     pub functions: DeclaredList,
     /// Those with a body.
-    pub bodies: DefinedFunctions,
+    pub bodies: Definitions<Defined>,
 }
 
 impl Drop for File {
@@ -59,10 +59,10 @@ impl File {
         Ok(File {
             tags: no_tags(alloc),
             scope,
-            defined: DefinedVariables::new(alloc),
+            defined: Definitions::new(alloc),
             mentioned: Items::new(alloc),
             functions: Items::new(alloc),
-            bodies: DefinedFunctions::new(alloc),
+            bodies: Definitions::new(alloc),
         })
     }
 
@@ -70,10 +70,10 @@ impl File {
     pub(crate) fn into_parts(
         self,
     ) -> (
-        DefinedVariables,
+        Definitions<Variable>,
         VariableList,
         DeclaredList,
-        DefinedFunctions,
+        Definitions<Defined>,
     )
         ensures { result ≡ (self.defined, self.mentioned, self.functions, self.bodies) }
     {

@@ -2,53 +2,73 @@
 ghost use Rattle.std.specs.Prelude.{◌≡◌, ◌<◌, ◌++◌, ◌∷◌, [], ℕ, List, OnOk};
 ghost use Rattle.indexmap.specs.IndexSet.{spare, IsUnchanged};
 ghost use Rattle.floyd_elab_names.specs.Scopes.{is_among};
-ghost use Rattle.floyd_elab.specs.TableClauses.{is_variable, is_body, AddsName};
+ghost use Rattle.floyd_elab.specs.TableClauses.{is_named, AddsName};
 
-use floyd_clight::{Defined, DefinedList, Variable, VariableList};
+use floyd_clight::{Defined, Variable};
 use floyd_text::Name;
 use indexmap::IndexSet;
 use sqlite_items::Items;
 use std::alloc::{AllocError, Global};
 use std::marker::Model;
 
-/// The variables that are defined, in order.
-pub(crate) struct DefinedVariables {
-    items: VariableList,
+/// What a file defines under a name.
+pub(crate) trait Define: Drop {
+    ghost name_of: { Self → List ℕ };
+
+    fn name(&self) -> &Name
+        ensures { result.now ≡ name_of self.now };
+}
+
+impl Define for Variable {
+    ghost name_of = { λ v. v.name };
+
+    fn name(&self) -> &Name {
+        &self.name
+    }
+}
+
+impl Define for Defined {
+    ghost name_of = { λ f. f.name };
+
+    fn name(&self) -> &Name {
+        &self.name
+    }
+}
+
+/// What is defined so far, in order: the variables, or the functions with a body.
+pub(crate) struct Definitions<T: Define> {
+    items: Items<T>,
     names: IndexSet<Name>,
 }
 
-impl Drop for DefinedVariables {
+impl<T: Define> Drop for Definitions<T> {
     fn drop(self) {
-        let DefinedVariables { items, names } = self;
+        let Definitions { items, names } = self;
         drop(items);
         drop(names);
     }
 }
 
-impl Model for DefinedVariables {
+impl<T: Define> Model for Definitions<T> {
     ghost use Rattle.std.specs.Prelude.{◌≡◌, ℕ, List};
-    ghost use Rattle.std.specs.Coded.{codes};
-    ghost use Rattle.floyd_ctypes.specs.contracts.ctype.CType as ctype;
-    ghost use Rattle.floyd_clight.specs.contracts.initial.Initial as initial;
-    ghost use Rattle.floyd_clight.specs.declared.unit.Variable.{Variable};
-
-    ghost Value = { List Variable };
-
-    ghost coded = { Prim.hlevel (codes, ctype.the_row.coded, initial.the_row.coded) };
-
+    ghost use Rattle.std.specs.Coded.{coded_list};
     ghost use Rattle.floyd_elab_names.specs.Scopes.{is_among};
-    ghost use Rattle.floyd_elab.specs.TableClauses.{is_variable};
+    ghost use Rattle.floyd_elab.specs.TableClauses.{is_named};
 
-    ghost view = { λ v. v.items };
+    ghost Value = { List T };
 
-    ghost invariant = { λ v. (q : List ℕ) → is_among q v.names.keys ≡ is_variable q v.items };
+    ghost coded = { coded_list T.code };
+
+    ghost view = { λ d. d.items };
+
+    ghost invariant = { λ d. (q : List ℕ) → is_among q d.names.keys ≡ is_named T.name_of q d.items };
 }
 
-impl DefinedVariables {
-    pub(crate) fn new(alloc: Global) -> DefinedVariables
+impl<T: Define> Definitions<T> {
+    pub(crate) fn new(alloc: Global) -> Definitions<T>
         ensures { result ≡ [] }
     {
-        DefinedVariables {
+        Definitions {
             items: Items::new(alloc),
             names: IndexSet::new(alloc),
         }
@@ -56,96 +76,26 @@ impl DefinedVariables {
 
     /// Whether one of them has the name.
     pub(crate) fn has(&self, x: &Name) -> bool
-        ensures { result ≡ is_variable x.now self.now }
+        ensures { result ≡ is_named T.name_of x.now self.now }
     {
         self.names.contains(x)
     }
 
     /// Puts one at the end.
-    pub(crate) fn add(&mut self, variable: Variable) -> Result<(), AllocError>
-        ensures { OnOk result (self.new ≡ self.old ++ variable ∷ []) }
+    pub(crate) fn add(&mut self, item: T) -> Result<(), AllocError>
+        ensures { OnOk result (self.new ≡ self.old ++ item ∷ []) }
     {
-        let name = variable.name.share()?;
+        let name = item.name().share()?;
         self.names.reserve(1)?;
-        self.items.push(variable)?;
+        self.items.push(item)?;
         put(&mut self.names, name);
         Ok(())
     }
 
-    pub(crate) fn into_items(self) -> VariableList
+    pub(crate) fn into_items(self) -> Items<T>
         ensures { result ≡ self }
     {
-        let DefinedVariables { items, names } = self;
-        drop(names);
-        items
-    }
-}
-
-/// The functions with a body, in order.
-pub(crate) struct DefinedFunctions {
-    items: DefinedList,
-    names: IndexSet<Name>,
-}
-
-impl Drop for DefinedFunctions {
-    fn drop(self) {
-        let DefinedFunctions { items, names } = self;
-        drop(items);
-        drop(names);
-    }
-}
-
-impl Model for DefinedFunctions {
-    ghost use Rattle.std.specs.Prelude.{◌≡◌, ℕ, List};
-    ghost use Rattle.std.specs.Coded.{codes};
-    ghost use Rattle.floyd_ctypes.specs.contracts.ctype.CType as ctype;
-    ghost use Rattle.floyd_clight.specs.contracts.syntax.Stmt as stmt;
-    ghost use Rattle.floyd_clight.specs.declared.unit.Defined.{Defined};
-
-    ghost Value = { List Defined };
-
-    ghost coded = { Prim.hlevel (codes, ctype.the_row.coded, stmt.the_row.coded) };
-
-    ghost use Rattle.floyd_elab_names.specs.Scopes.{is_among};
-    ghost use Rattle.floyd_elab.specs.TableClauses.{is_body};
-
-    ghost view = { λ b. b.items };
-
-    ghost invariant = { λ b. (q : List ℕ) → is_among q b.names.keys ≡ is_body q b.items };
-}
-
-impl DefinedFunctions {
-    pub(crate) fn new(alloc: Global) -> DefinedFunctions
-        ensures { result ≡ [] }
-    {
-        DefinedFunctions {
-            items: Items::new(alloc),
-            names: IndexSet::new(alloc),
-        }
-    }
-
-    /// Whether one of them has the name.
-    pub(crate) fn has(&self, x: &Name) -> bool
-        ensures { result ≡ is_body x.now self.now }
-    {
-        self.names.contains(x)
-    }
-
-    /// Puts one at the end.
-    pub(crate) fn add(&mut self, function: Defined) -> Result<(), AllocError>
-        ensures { OnOk result (self.new ≡ self.old ++ function ∷ []) }
-    {
-        let name = function.name.share()?;
-        self.names.reserve(1)?;
-        self.items.push(function)?;
-        put(&mut self.names, name);
-        Ok(())
-    }
-
-    pub(crate) fn into_items(self) -> DefinedList
-        ensures { result ≡ self }
-    {
-        let DefinedFunctions { items, names } = self;
+        let Definitions { items, names } = self;
         drop(names);
         items
     }

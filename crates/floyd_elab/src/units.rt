@@ -4,7 +4,7 @@ ghost use Rattle.floyd_elab.specs.Units.{struct_of as struct_of_lem, unit_of as 
 ghost use Rattle.floyd_elab.specs.UnitClauses.{all_fields, not_among};
 
 use crate::file::File;
-use crate::tables::DefinedVariables;
+use crate::tables::Definitions;
 use floyd_clight::{ClightUnit, StructDef, StructList, Variable, VariableList};
 use floyd_cparse_trees::Identifier;
 use floyd_ctypes::{Field, FieldList, StructTable};
@@ -68,7 +68,7 @@ fn all_structs(alloc: Global, tags: &Tags) -> Result<StructList, AllocError>
 
 /// Puts a variable at the end, unless it is among the defined ones.
 fn keep(
-    defined: &DefinedVariables,
+    defined: &Definitions<Variable>,
     only: &mut VariableList,
     variable: Variable,
 ) -> Result<(), AllocError>
@@ -84,7 +84,7 @@ fn keep(
 /// The variables that are not among the defined ones, the last one first.
 fn only_declared(
     alloc: Global,
-    defined: &DefinedVariables,
+    defined: &Definitions<Variable>,
     mut mentioned: VariableList,
 ) -> Result<VariableList, AllocError>
     ensures { IfOk result (λ only. reverse only ≡ not_among defined.now mentioned) }
@@ -109,7 +109,7 @@ fn put_back(variables: &mut VariableList, mut more: VariableList) -> Result<(), 
 /// The variables that are defined, and behind them those that are only declared.
 fn variables_of(
     alloc: Global,
-    defined: DefinedVariables,
+    defined: Definitions<Variable>,
     mentioned: VariableList,
 ) -> Result<VariableList, AllocError>
     ensures { IfOk result (λ all. all ≡ defined ++ not_among defined mentioned) }

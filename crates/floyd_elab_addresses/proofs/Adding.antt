@@ -14,6 +14,12 @@ or-swap false true false = refl
 or-swap false false true = refl
 or-swap false false false = refl
 
+pub or-flip : (p q : Bool) → (p || q) ≡ (q || p)
+or-flip true true = refl
+or-flip true false = refl
+or-flip false true = refl
+or-flip false false = refl
+
 module _ (a b : List (List ℕ)) where
   pub adds_as : (p r : List ℕ → Bool) → ((x : List ℕ) → r x ≡ p x) → Adds p a b → Adds r a b
   adds_as p r same adds x = adds x ∙ sym (ap (λ u. u || is_among a x) (same x))

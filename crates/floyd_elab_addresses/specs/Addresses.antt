@@ -75,6 +75,7 @@ module _ (x : List ℕ) where
     in_statement (c.Do' p (c.more_of-CStatement body c.end_of-CStatement) place e) = in_statement body || in_expression e
     in_statement (c.For' place first e third p (c.more_of-CStatement body c.end_of-CStatement)) =
         in_option first || in_option e || in_option third || in_statement body
+    in_statement (c.Switch' place e shape cases) = in_expression e || in_cases cases
     in_statement c.Break = false
     in_statement c.Continue = false
     in_statement (c.Return place e) = in_option e
@@ -83,3 +84,7 @@ module _ (x : List ℕ) where
     in_items c.end_of-BlockItem = false
     in_items (c.more_of-BlockItem (i.Declaration d) rest) = in_declarators d.declarators (in_items rest)
     in_items (c.more_of-BlockItem (i.Statement s) rest) = in_statement s || in_items rest
+
+    pub in_cases : {m : _} → c.Row_of-SwitchCase m → Bool
+    in_cases c.end_of-SwitchCase = false
+    in_cases (c.more_of-SwitchCase label p (c.more_of-CStatement body c.end_of-CStatement) rest) = in_statement body || in_cases rest

@@ -24,12 +24,17 @@ abbrev mutual
   statement_flags (c.While' place e p (c.more_of-CStatement body c.end_of-CStatement)) = statement_flags body
   statement_flags (c.Do' p (c.more_of-CStatement body c.end_of-CStatement) place e) = statement_flags body
   statement_flags (c.For' place first e third p (c.more_of-CStatement body c.end_of-CStatement)) = statement_flags body
+  statement_flags (c.Switch' place e shape cases) = case_flags cases
   statement_flags s = []
 
   pub item_flags : {m : _} → c.Row_of-BlockItem m → List Bool
   item_flags c.end_of-BlockItem = []
   item_flags (c.more_of-BlockItem (i.Declaration d) rest) = declarator_flags d.declarators (λ x. in_items x rest) ++ item_flags rest
   item_flags (c.more_of-BlockItem (i.Statement s) rest) = statement_flags s ++ item_flags rest
+
+  pub case_flags : {m : _} → c.Row_of-SwitchCase m → List Bool
+  case_flags c.end_of-SwitchCase = []
+  case_flags (c.more_of-SwitchCase label p (c.more_of-CStatement body c.end_of-CStatement) rest) = statement_flags body ++ case_flags rest
 
 -- those of the block that has these items
 abbrev pub block_flags : List i.BlockItem → List Bool

@@ -4,6 +4,7 @@ use Rattle.floyd_cparse_trees.specs.declared.expressions.Prefix.{Prefix}
 use Rattle.floyd_cparse_trees.specs.declared.expressions.Prefix.TheVariants as before
 use Rattle.floyd_cparse_trees.specs.declared.expressions.PrefixOp.TheVariants.{Address}
 use Rattle.floyd_cparse_trees.specs.declared.statements.BlockItem as i
+use Rattle.floyd_cparse_trees.specs.declared.statements.SwitchCase.{SwitchCase}
 use Rattle.floyd_elab_addresses.specs.Addresses.{in_statement, in_declarators}
 use Rattle.floyd_elab_addresses.specs.Flags.{declarator_flags, statement_flags}
 
@@ -27,3 +28,12 @@ flags_of_item (i.Statement s) rest = statement_flags s
 abbrev pub flags_of_all : List i.BlockItem → List Bool
 flags_of_all [] = []
 flags_of_all (item ∷ items) = flags_of_item item (λ x. in_all x items) ++ flags_of_all items
+
+-- in some of the cases of a switch
+abbrev pub in_any_case : List ℕ → List SwitchCase → Bool
+in_any_case x [] = false
+in_any_case x (one ∷ cases) = in_statement x one.body || in_any_case x cases
+
+abbrev pub flags_of_cases : List SwitchCase → List Bool
+flags_of_cases [] = []
+flags_of_cases (one ∷ cases) = statement_flags one.body ++ flags_of_cases cases

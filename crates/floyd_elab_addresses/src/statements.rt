@@ -2,12 +2,12 @@
 ghost use Rattle.std.specs.Prelude.{◌≡◌, ◌∷◌, [], ◌++◌, ℕ, List, IfOk, OnOk};
 ghost use Rattle.floyd_elab_addresses.specs.Addresses.{in_declarators, in_statement};
 ghost use Rattle.floyd_elab_addresses.specs.Flags.{block_flags, declarator_flags, statement_flags};
-ghost use Rattle.floyd_elab_addresses.specs.PartClauses.{in_all, in_item, flags_of_all, flags_of_item};
+ghost use Rattle.floyd_elab_addresses.specs.PartClauses.{in_all, in_any_case, in_item, flags_of_all, flags_of_cases, flags_of_item};
 ghost use Rattle.floyd_elab_addresses.specs.SetClauses.{is_among, Adds};
 
 use crate::flags::Flags;
 use crate::taken::Taken;
-use floyd_cparse_trees::{BlockItem, CStatement, LocalDeclarator};
+use floyd_cparse_trees::{BlockItem, CStatement, LocalDeclarator, SwitchCase};
 use floyd_elab_names::name_of;
 use floyd_text::Name;
 use std::alloc::{AllocError, Global};
@@ -94,7 +94,27 @@ fn statement(
             taken.optional(third)?;
             statement(alloc, body.get(), taken, flags)
         }
+        CStatement::Switch { value, cases, .. } => {
+            taken.expression(value)?;
+            switch_cases(alloc, cases.as_slice(), taken, flags)
+        }
     }
+}
+
+#[cycle(statement)]
+fn switch_cases(
+    alloc: Global,
+    cases: &[SwitchCase],
+    taken: &mut Taken,
+    flags: &mut Flags,
+) -> Result<(), AllocError>
+    ensures taken { OnOk result (Adds (λ x. in_any_case x cases.now) taken.old taken.new) }
+    ensures flags { OnOk result (flags.new ≡ flags_of_cases cases.now ++ flags.old) }
+{
+    'cases: for i in (0..cases.len()).rev() {
+        statement(alloc, cases[i].body.get(), taken, flags)?;
+    }
+    Ok(())
 }
 
 /// The names whose address is taken in a block, but for those of its own variables.

@@ -1,22 +1,12 @@
 -- Constants of initial data.
-use Rattle.std.proofs.Common.{◌≡◌, ℕ, ◌-◌, ◌^◌, Bool, true, false, is_some, ◌&&◌, nat_le, pos, ◌-ℤ◌, Some, refl}
+use Rattle.std.proofs.Common.{◌≡◌, ℕ, Bool, true, false, is_some, ◌&&◌, Some, refl}
 use denote.Hole.Carrier.{hidden}
-use Rattle.floyd_int.specs.declared.kinds.IntKind.{IntKind}
-use Rattle.floyd_int.specs.Kind.{width, is_signed, value_of}
 use Rattle.floyd_ctypes.specs.declared.ctype.CType.{CType, Array}
 use Rattle.floyd_ctypes.specs.declared.ctype.CType.TheBlock.{shape-the_row-CType-0, hidden-the_row-CType-0}
 use Rattle.floyd_ctypes.specs.Layout.{layout, arrays_fit}
 use Rattle.floyd_ctypes.specs.Structs.{Structs}
 use Rattle.floyd_elab_names.specs.Types.{has_size}
 use Rattle.floyd_elab_data.specs.Contents.{element_of}
-
-pub value_negative : (k : IntKind) (b : ℕ) → (is_signed k && nat_le (2 ^ (width k - 1)) b) ≡ true → value_of k b ≡ pos b -ℤ pos (2 ^ width k)
-unfolding value_of
-value_negative k b h = rw h
-
-pub value_other : (k : IntKind) (b : ℕ) → (is_signed k && nat_le (2 ^ (width k - 1)) b) ≡ false → value_of k b ≡ pos b
-unfolding value_of
-value_other k b h = rw h
 
 pub element_of_array : (t : CType) (n : ℕ) → element_of (Array t n) ≡ Some t
 unfolding shape-the_row-CType-0 hidden-the_row-CType-0 hidden

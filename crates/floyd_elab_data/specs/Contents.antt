@@ -1,9 +1,8 @@
 -- Elaboration of initial data. An array or a struct takes a list, and a number or a pointer takes a constant. What does
 -- not fit is ill typed at the `=`, or at the brace of the list that it stands in.
-use Rattle.std.specs.Prelude.{ℕ, ◌*◌, ◌==◌, Bool, true, false, ◌&&◌, ◌||◌, not, nat_le, slice_get, option_map, ◌+◌, List, [], ◌∷◌, length, Option, Some, None, pos, neg_ℤ}
+use Rattle.std.specs.Prelude.{ℕ, ◌*◌, ◌==◌, Bool, true, false, ◌&&◌, ◌||◌, not, nat_le, slice_get, option_map, ◌+◌, List, [], ◌∷◌, length, Option, Some, None}
 use Rattle.std.specs.Option.{unwrap_or}
 use Rattle.floyd_text.specs.declared.place.Place.{Place}
-use Rattle.floyd_int.specs.Kind.{repr_of, cast_of}
 use Rattle.floyd_ctypes.specs.declared.ctype.CType.{CType, Int, Pointer', Array', Struct, more_of-CType, end_of-CType}
 use Rattle.floyd_ctypes.specs.Structs.{Structs, fields_of}
 use Rattle.floyd_ctypes.specs.Layout.{size}
@@ -19,17 +18,13 @@ use Rattle.floyd_elab_names.specs.Scopes.{Scopes, meaning_of}
 use Rattle.floyd_elab_names.specs.Types.{pointer_to, is_function, is_scalar, has_size}
 use Rattle.floyd_ctyping.specs.Operators as o
 use Rattle.floyd_ctyping.specs.Expressions.{name_operand}
+use Rattle.floyd_ctyping.specs.Switches.{constant_bits}
 use Rattle.floyd_clight.specs.declared.initial.Initial as initial
 use Rattle.floyd_clight.specs.declared.initial.Initial.{Initial}
 
--- the bits of a literal, or of minus it as C computes that
-abbrev pub signed_bits : Bool → Literal → ℕ
-signed_bits false l = l.value
-signed_bits true l = repr_of l.kind (neg_ℤ (pos l.value))
-
 -- a literal for a number is cast to its kind; for a pointer only 0 will do, and `-0` is not it
 abbrev pub literal_contents : Place → CType → Bool → Literal → Typing Initial
-literal_contents place (Int k) negative l = pure (initial.Int k (cast_of l.kind k (signed_bits negative l)))
+literal_contents place (Int k) negative l = pure (initial.Int k (constant_bits k negative l))
 literal_contents place (Pointer' p t) negative l = unless (ill_typed place) (not negative && l.value == 0) >> pure initial.Null
 literal_contents place t negative l = refuse (ill_typed place)
 

@@ -1,24 +1,22 @@
 //! Contents that one constant gives.
-ghost use Rattle.std.specs.Prelude.{◌≡◌, ◌-◌, ◌^◌, ◌&&◌, ◌||◌, nat_le, pos, IsTrue, IfOk};
+ghost use Rattle.std.specs.Prelude.{◌≡◌, ◌&&◌, ◌||◌, IsTrue, IfOk};
 ghost use Rattle.std.specs.Option.{option_copied, unwrap_or};
 ghost use Rattle.floyd_text.specs.Gives.{Gives};
 ghost use Rattle.floyd_text.specs.declared.refusal.Halt.TheVariants.{Refused};
 ghost use Rattle.floyd_cparse_trees.specs.declared.declarations.Constant.TheVariants as constants;
 ghost use Rattle.floyd_cparse_trees.specs.declared.declarations.Initialiser.TheVariants as initialiser;
-ghost use Rattle.floyd_int.specs.Kind.{width as width_lem, is_signed as is_signed_lem, value_of as value_of_lem};
 ghost use Rattle.floyd_ctypes.specs.Layout.{size};
 ghost use Rattle.floyd_elab_names.specs.declared.tags.Tags.{Tags as Kept};
 ghost use Rattle.floyd_elab_names.specs.Refusals.{ill_typed as ill_typed_lem};
 ghost use Rattle.floyd_elab_names.specs.Types.{has_size as has_size_lem, pointer_to as pointer_to_lem, is_function as is_function_lem};
 ghost use Rattle.floyd_ctyping.specs.Operators.{fits_into as fits_into_lem, value_of_type};
-ghost use Rattle.floyd_elab_data.specs.Contents.{element_type as element_type_lem, signed_bits as signed_bits_lem, literal_contents as literal_contents_lem, element_of as element_of_lem, is_array as is_array_lem, constant as constant_lem, contents as contents_lem};
+ghost use Rattle.floyd_elab_data.specs.Contents.{element_type as element_type_lem, literal_contents as literal_contents_lem, element_of as element_of_lem, is_array as is_array_lem, constant as constant_lem, contents as contents_lem};
 
 use floyd_clight::Initial;
 use floyd_cparse_trees::{Constant, Identifier, Literal};
 use floyd_ctypes::{CType, StructTable};
-use floyd_ctyping::{Operand, fits_into, name_operand};
+use floyd_ctyping::{Operand, constant_bits, fits_into, name_operand};
 use floyd_elab_names::{Names, Tags, has_size, ill_typed, is_function, is_scalar, pointer_to};
-use floyd_int::{IntKind, repr};
 use floyd_text::{Halt, Place};
 use std::alloc::{AllocError, Global};
 
@@ -27,42 +25,6 @@ pub(crate) fn misfit(place: Place) -> Halt
     ensures { result ≡ Refused (ill_typed_lem place) }
 {
     Halt::Refused(ill_typed(place))
-}
-
-/// How many integers of the kind there are, each with bits of its own.
-fn modulus(kind: IntKind) -> i128
-    ensures { result ≡ pos (2 ^ width_lem kind) }
-{
-    1 << kind.width()
-}
-
-/// Whether the kind reads these bits as a number below 0.
-fn is_negative(kind: IntKind, bits: u64) -> bool
-    ensures { result ≡ (is_signed_lem kind && nat_le (2 ^ (width_lem kind - 1)) bits) }
-{
-    kind.is_signed() && i128::from(bits) > kind.greatest()
-}
-
-/// The value of these bits, of which there may be more than the kind has.
-fn value_of(kind: IntKind, bits: u64) -> i128
-    ensures { result ≡ value_of_lem kind bits }
-{
-    if is_negative(kind, bits) {
-        i128::from(bits) - modulus(kind)
-    } else {
-        i128::from(bits)
-    }
-}
-
-/// The bits of a literal, or of minus it as C computes that.
-fn signed_bits(negative: bool, literal: Literal) -> u64
-    ensures { result ≡ signed_bits_lem negative literal }
-{
-    if negative {
-        repr(literal.kind, -i128::from(literal.value))
-    } else {
-        literal.value
-    }
 }
 
 /// What a literal gives: for a number its value, cast to the number's kind, and for a pointer only the constant 0.
@@ -75,10 +37,7 @@ fn literal_contents(
     ensures exact { (tags : Kept) → Gives (λ x. (x, tags)) result (literal_contents_lem place t.now negative literal tags) }
 {
     match t {
-        CType::Int(kind) => {
-            let value = value_of(literal.kind, signed_bits(negative, literal));
-            Ok(Initial::Int(*kind, repr(*kind, value)))
-        }
+        CType::Int(kind) => { Ok(Initial::Int(*kind, constant_bits(*kind, negative, literal))) }
         CType::Pointer(_) if !negative && literal.value == 0 => Ok(Initial::Null),
         _ => Err(misfit(place)),
     }

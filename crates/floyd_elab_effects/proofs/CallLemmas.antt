@@ -24,7 +24,7 @@ use Rattle.floyd_elab_expressions.specs.Clight.{Translated, cast_into}
 use Rattle.floyd_elab_expressions.specs.Progress.{Elaborating}
 use Rattle.floyd_elab_expressions.specs.Expressions.{rvalue}
 use Rattle.floyd_elab_expressions.specs.Behind.{onto}
-use Rattle.floyd_elab_effects.specs.Effects.{Calling, argument_row, calling}
+use Rattle.floyd_elab_effects.specs.Effects.{Calling, argument_row, parts_of_call}
 use Rattle.floyd_elab_effects.specs.CallClauses.{fit_then, one_argument, all_arguments, arguments_to, signature_in, whole_call, callee_then, call_of, one_behind, all_behind, to_behind, call_behind}
 use Rattle.floyd_elab_expressions.proofs.Chains.{goes, stops}
 use Rattle.floyd_elab_expressions.proofs.Bridges.{shape_length}
@@ -77,13 +77,13 @@ flat_callee : {m : _} (s : Scopes) (place : Place) (row : Row_of-CExpr m) (r : R
 flat_callee {m} s place row (Ok r) = flat_call s place row r.0 (o.callee_signature (length (items-the_row-CExpr m row)) r.0.operand) r.1
 flat_callee s place row (Err refusal) = refl
 
-calling_row : {m : _} (s : Scopes) (f : CExpr) (place : Place) (n : ℕ) (row : Row_of-CExpr m) (p : Progress) → n ≡ length (items-the_row-CExpr m row) → calling s f place n row p ≡ call_of s f place (items-the_row-CExpr m row) p
-calling_row {m} s f place n row p e = ap (λ k. calling s f place k row p) e ∙ flat_callee s place row (rvalue s f p)
+parts_of_call_row : {m : _} (s : Scopes) (f : CExpr) (place : Place) (n : ℕ) (row : Row_of-CExpr m) (p : Progress) → n ≡ length (items-the_row-CExpr m row) → parts_of_call s f place n row p ≡ call_of s f place (items-the_row-CExpr m row) p
+parts_of_call_row {m} s f place n row p e = ap (λ k. parts_of_call s f place k row p) e ∙ flat_callee s place row (rvalue s f p)
 
-pub call_row : (s : Scopes) (f : CExpr) (place : Place) (arguments : List CExpr) (p : Progress) → calling s f place (length (shape-the_row-CExpr-1 arguments)) (hidden-the_row-CExpr-1 arguments) p ≡ call_of s f place arguments p
+pub call_row : (s : Scopes) (f : CExpr) (place : Place) (arguments : List CExpr) (p : Progress) → parts_of_call s f place (length (shape-the_row-CExpr-1 arguments)) (hidden-the_row-CExpr-1 arguments) p ≡ call_of s f place arguments p
 call_row s f place arguments p =
     let same = items_hidden-the_row-CExpr-1 arguments in
-    calling_row s f place (length (shape-the_row-CExpr-1 arguments)) (hidden-the_row-CExpr-1 arguments) p (shape_length arguments ∙ sym (ap (λ (es : List CExpr). length es) same)) ∙ ap (λ (es : List CExpr). call_of s f place es p) same
+    parts_of_call_row s f place (length (shape-the_row-CExpr-1 arguments)) (hidden-the_row-CExpr-1 arguments) p (shape_length arguments ∙ sym (ap (λ (es : List CExpr). length es) same)) ∙ ap (λ (es : List CExpr). call_of s f place es p) same
 
 -- One argument.
 

@@ -73,8 +73,8 @@ module _ (scopes : Scopes) where
     pure (a.before ++ more.0, cast_into t a ∷ more.1)
 
   -- a call: its callee and the number of its arguments are judged before them
-  abbrev pub calling : {m : _} → e.CExpr → Place → ℕ → e.Row_of-CExpr m → Elaborating Calling
-  calling function place count arguments = do
+  abbrev pub parts_of_call : {m : _} → e.CExpr → Place → ℕ → e.Row_of-CExpr m → Elaborating Calling
+  parts_of_call function place count arguments = do
     f ← rvalue scopes function
     signature ← or_refuse (ill_typed place) (o.callee_signature count f.operand)
     all ← argument_row place signature.0 arguments
@@ -89,7 +89,7 @@ module _ (scopes : Scopes) where
   -- a right side: a call, or an expression
   abbrev pub right_side : e.CExpr → Elaborating Translated
   right_side (e.Call' p (e.more_of-CExpr function e.end_of-CExpr) place shape arguments) =
-      calling function place (length shape) arguments >>= call_result
+      parts_of_call function place (length shape) arguments >>= call_result
   right_side e = rvalue scopes e
 
   -- `lv = r`, and `lv op= r` where the right side is no call
@@ -111,6 +111,6 @@ module _ (scopes : Scopes) where
   effect (e.Prefixed' (before.Step op place ∷ rest) p (e.more_of-CExpr operand e.end_of-CExpr)) =
       with_prefixes scopes rest (expression scopes operand) >>= step_effect op place
   effect (e.Call' p (e.more_of-CExpr function e.end_of-CExpr) place shape arguments) = do
-    call ← calling function place (length shape) arguments
+    call ← parts_of_call function place (length shape) arguments
     pure (call.before ++ s.Call None call.callee call.arguments ∷ [])
   effect e = pure []

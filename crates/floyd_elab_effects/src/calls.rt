@@ -80,7 +80,7 @@ pub(crate) fn judge(place: Place, fits: bool) -> Result<(), Halt>
 }
 
 /// A call of so many arguments. Its callee and their number are judged before them.
-pub(crate) fn calling(
+pub(crate) fn parts_of_call(
     alloc: Global,
     names: &Names,
     form: CallForm<'_>,

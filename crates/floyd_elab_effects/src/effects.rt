@@ -12,7 +12,7 @@ ghost use Rattle.floyd_elab_expressions.specs.Expressions.{rvalue as rvalue_lem}
 ghost use Rattle.floyd_elab_effects.specs.CallClauses.{send_operation as send_operation_lem, call_with, on_target};
 ghost use Rattle.floyd_elab_effects.specs.Effects.{send_to, update as update_lem, step_op as step_op_lem, literal_one as literal_one_lem, step_effect as step_effect_lem, call_result as call_result_lem, assignment as assignment_lem, first_assignment, right_side as right_side_lem, effect as effect_lem};
 
-use crate::calls::{CallForm, CallParts, calling, judge};
+use crate::calls::{CallForm, CallParts, judge, parts_of_call};
 use floyd_clight::{Expr, Stmt, StmtList};
 use floyd_cparse_trees::{CExpr, Prefix, StepOp};
 use floyd_ctypes::CType;
@@ -255,7 +255,7 @@ fn lone_call(
 ) -> Result<(), Halt>
     ensures exact { Gives (λ u. (out.new, progress.new)) result (put_behind out.old (effect_lem names.now (CallOf form.entry.function.now form.entry.place form.entry.arguments.now) progress.old)) }
 {
-    let call = calling(alloc, names, form, progress, out)?;
+    let call = parts_of_call(alloc, names, form, progress, out)?;
     push_call(None, call, out)?;
     Ok(())
 }
@@ -270,7 +270,7 @@ fn used_call(
 ) -> Result<Translation, Halt>
     ensures exact { Gives (λ a. (behind out.new a, progress.new)) result (onto out.old (right_side_lem names.now (CallOf form.entry.function.now form.entry.place form.entry.arguments.now) progress.old)) }
 {
-    let call = calling(alloc, names, form, progress, out)?;
+    let call = parts_of_call(alloc, names, form, progress, out)?;
     call_result(alloc, call, progress, out)
 }
 

@@ -3,7 +3,8 @@ use Rattle.std.proofs.Common.{◌≡◌, ℕ, Bool, false, ◌||◌, not, List, 
 use Rattle.std.specs.List.{AllByRecursion}
 use Rattle.floyd_text.specs.declared.place.Place as position
 use Rattle.floyd_int.specs.declared.kinds.IntOp.{IntOp}
-use Rattle.floyd_ctypes.specs.declared.ctype.CType.{CType}
+use Rattle.floyd_int.specs.declared.kinds.IntKind.{IntKind}
+use Rattle.floyd_ctypes.specs.declared.ctype.CType.{CType, Int}
 use Rattle.floyd_cparse_trees.specs.declared.expressions.CExpr as e
 use Rattle.floyd_cparse_trees.specs.declared.expressions.Prefix.TheVariants as before
 use Rattle.floyd_cparse_trees.specs.declared.expressions.StepOp.{StepOp}
@@ -19,6 +20,7 @@ use Rattle.floyd_elab_names.specs.Types.{is_void}
 use Rattle.floyd_ctyping.specs.Operators as o
 use Rattle.floyd_elab_names.specs.Declarators.{base_type, name_of, name_or_none}
 use Rattle.floyd_ctyping.specs.Expressions.{check_test}
+use Rattle.floyd_ctyping.specs.Switches.{Labels, no_labels, with_label, next_label, switch_kind}
 use Rattle.floyd_clight.specs.declared.syntax.Expr.{Expr, Const, Temp, Var, Deref', AddrOf', Unary', Binary', Cast', Field', SizeOf}
 use Rattle.floyd_clight.specs.declared.syntax.Stmt as stmt
 use Rattle.floyd_clight.specs.declared.syntax.Stmt.{Stmt}
@@ -26,13 +28,13 @@ use Rattle.floyd_elab_expressions.specs.Clight.{Translated, cast_into, sequence,
 use Rattle.floyd_elab_expressions.specs.declared.progress.Progress.{Progress}
 use Rattle.floyd_elab_expressions.specs.Progress.{Elaborating, typing}
 use Rattle.floyd_elab_expressions.specs.Expressions.{read, expression, rvalue, with_prefixes, variable_of, binary_operator}
-use Rattle.floyd_elab_effects.specs.Effects.{Calling, send_to, as_target, update, step_op, literal_one, step_effect, argument_row, calling, right_side, assignment, effect}
+use Rattle.floyd_elab_effects.specs.Effects.{Calling, send_to, as_target, update, step_op, literal_one, step_effect, argument_row, parts_of_call, right_side, assignment, effect}
 use Rattle.floyd_elab_addresses.specs.Addresses.{in_items, in_initialiser, in_declarators}
 use Rattle.floyd_elab_statements.specs.Locals.{nowhere, declare_variable, target_of, initialise, declarators}
-use Rattle.floyd_elab_statements.specs.Statements.{test, loop_test, optional_test, optional_effect, return_statement, statement, items, body}
+use Rattle.floyd_elab_statements.specs.Statements.{test, selector, loop_test, optional_test, optional_effect, return_statement, statement, items, cases, body}
 use Rattle.floyd_elab_laws.specs.Reads.{reads, place_reads, ReadsByPulls}
 use Rattle.floyd_elab_laws.proofs.GivesLemmas.{Gives, after, here, passing}
-use Rattle.floyd_elab_laws.proofs.ReadLemmas.{Fine, fine_append, fine_sequence, fine_if, fine_loop, Place, Value, Places, Values, read_value, into_reads, test_reads, binary_value, variable_place, prefixed_places, places, valued_values}
+use Rattle.floyd_elab_laws.proofs.ReadLemmas.{Fine, FineCases, fine_append, fine_sequence, fine_if, fine_loop, fine_switch, Place, Value, Places, Values, read_value, into_reads, test_reads, binary_value, variable_place, prefixed_places, places, valued_values}
 
 -- ---- assignments
 
@@ -86,8 +88,8 @@ module _ (scopes : Scopes) where
       passing (unless (ill_typed place) (o.fits_into t a.operand) s) (λ x u.
       after (argument_row scopes place ts rest u) (passed_fine place ts rest u) (λ more v g. here (fine_append a.before more.0 f.before g.0, (into_reads t a f.reads, g.1)))))
 
-  calling_fine : {m : _} (function : e.CExpr) (place : position.Place) (count : ℕ) (arguments : e.Row_of-CExpr m) (p : Progress) → Gives (calling scopes function place count arguments p) (λ r. IsCalled r.0)
-  calling_fine function place count arguments p =
+  parts_fine : {m : _} (function : e.CExpr) (place : position.Place) (count : ℕ) (arguments : e.Row_of-CExpr m) (p : Progress) → Gives (parts_of_call scopes function place count arguments p) (λ r. IsCalled r.0)
+  parts_fine function place count arguments p =
       after (rvalue scopes function p) (valued_values scopes function p) (λ f s h.
       passing (or_refuse (ill_typed place) (o.callee_signature count f.operand) s) (λ signature u.
       after (argument_row scopes place signature.0 arguments u) (passed_fine place signature.0 arguments u) (λ all v g.
@@ -95,7 +97,7 @@ module _ (scopes : Scopes) where
 
   right_values : (r : e.CExpr) → Values (right_side scopes r)
   right_values (e.Call' p (e.more_of-CExpr function e.end_of-CExpr) place shape arguments) = λ p.
-      after (calling scopes function place (length shape) arguments p) (calling_fine function place (length shape) arguments p) (λ call s h.
+      after (parts_of_call scopes function place (length shape) arguments p) (parts_fine function place (length shape) arguments p) (λ call s h.
       here (record { before = fine_append call.before _ h.before ((h.callee, h.arguments), tt); reads = refl }))
   right_values (e.Name i) = valued_values scopes (e.Name i)
   right_values (e.Literal l) = valued_values scopes (e.Literal l)
@@ -121,7 +123,7 @@ module _ (scopes : Scopes) where
   effect_fine (e.Prefixed' (before.Step op place ∷ rest) p (e.more_of-CExpr operand e.end_of-CExpr)) = λ p.
       after (with_prefixes scopes rest (expression scopes operand) p) (prefixed_places scopes rest (expression scopes operand) (places scopes operand) p) (λ a s f. stepped_fine op place a f s)
   effect_fine (e.Call' p (e.more_of-CExpr function e.end_of-CExpr) place shape arguments) = λ p.
-      after (calling scopes function place (length shape) arguments p) (calling_fine function place (length shape) arguments p) (λ call s h. here (fine_append call.before _ h.before ((h.callee, h.arguments), tt)))
+      after (parts_of_call scopes function place (length shape) arguments p) (parts_fine function place (length shape) arguments p) (λ call s h. here (fine_append call.before _ h.before ((h.callee, h.arguments), tt)))
   effect_fine x = λ p. here tt
 
   -- ---- tests and values of statements
@@ -130,6 +132,11 @@ module _ (scopes : Scopes) where
   test_fine place x p =
       after (rvalue scopes x p) (valued_values scopes x p) (λ a s f.
       passing (typing (check_test place a.operand) s) (λ y u. here (f.before, test_reads x a f.reads)))
+
+  selector_fine : (place : position.Place) (x : e.CExpr) (p : Progress) → Gives (selector scopes place x p) (λ r. Fine r.0.0 × (reads r.0.1.0 ≡ false))
+  selector_fine place x p =
+      after (rvalue scopes x p) (valued_values scopes x p) (λ a s f.
+      passing (typing (switch_kind place a.operand) s) (λ kind u. here (f.before, into_reads (Int kind) a f.reads)))
 
   loop_fine : (place : position.Place) (x : e.CExpr) → Makes (loop_test scopes place x)
   loop_fine place x = λ p.
@@ -200,6 +207,10 @@ module _ (result : CType) where
         after (optional_effect scopes third u) (optional_effect_fine scopes third u) (λ behind v h.
         after (statement result scopes inner v) (statement_fine scopes inner v) (λ all w k.
         here (fine_append before (stmt.Loop (sequence (t ++ all)) (sequence behind) ∷ []) f (fine_loop (sequence (t ++ all)) (sequence behind) (fine_sequence (t ++ all) (fine_append t all g k)) (fine_sequence behind h), tt))))))
+    statement_fine scopes (c.Switch' place x shape rows) = λ p.
+        after (selector scopes place x p) (selector_fine scopes place x p) (λ t s f.
+        after (cases result t.1.1 no_labels scopes rows s) (cases_fine t.1.1 no_labels scopes rows s) (λ made u g.
+        here (fine_append t.0 (stmt.Switch t.1.0 made ∷ []) f.0 (fine_switch t.1.0 made f.1 g, tt))))
     statement_fine scopes c.Break = λ p. here (tt, tt)
     statement_fine scopes c.Continue = λ p. here (tt, tt)
     statement_fine scopes (c.Return place x) = returned_fine scopes result place x
@@ -214,6 +225,13 @@ module _ (result : CType) where
         after (statement result scopes a p) (statement_fine scopes a p) (λ first s f.
         after (items result scopes rest s) (items_fine scopes rest s) (λ more u g. here (fine_append first more f g)))
 
+    cases_fine : {m : _} (kind : IntKind) (before : Labels) (scopes : Scopes) (rows : c.Row_of-SwitchCase m) (p : Progress) → Gives (cases result kind before scopes rows p) (λ r. FineCases r.0)
+    cases_fine kind before scopes c.end_of-SwitchCase = λ p. here tt
+    cases_fine kind before scopes (c.more_of-SwitchCase label q (c.more_of-CStatement inner c.end_of-CStatement) rest) = λ p.
+        passing (typing (next_label kind before label) p) (λ bits s.
+        after (statement result scopes inner s) (statement_fine scopes inner s) (λ first u f.
+        after (cases result kind (with_label before bits) scopes rest u) (cases_fine kind (with_label before bits) scopes rest u) (λ more v g. here (fine_sequence first f, g))))
+
   body_fine : (scopes : Scopes) (x : c.CStatement) → Makes (body result scopes x)
   body_fine scopes (c.Block' shape rows) = items_fine scopes rows
   body_fine scopes c.Empty = statement_fine scopes c.Empty
@@ -223,6 +241,7 @@ module _ (result : CType) where
   body_fine scopes (c.While' place x p a) = statement_fine scopes (c.While' place x p a)
   body_fine scopes (c.Do' p a place x) = statement_fine scopes (c.Do' p a place x)
   body_fine scopes (c.For' place first x third p a) = statement_fine scopes (c.For' place first x third p a)
+  body_fine scopes (c.Switch' place x shape rows) = statement_fine scopes (c.Switch' place x shape rows)
   body_fine scopes c.Break = statement_fine scopes c.Break
   body_fine scopes c.Continue = statement_fine scopes c.Continue
   body_fine scopes (c.Return place x) = statement_fine scopes (c.Return place x)

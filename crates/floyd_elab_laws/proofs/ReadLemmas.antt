@@ -1,7 +1,7 @@
 -- Reads of what elaboration makes of expressions.
 use Rattle.std.proofs.Common.{◌≡◌, ℕ, ◌+◌, Bool, true, false, ◌&&◌, ◌||◌, List, [], ◌∷◌, ◌++◌, length, is_some, Option, Some, None, Result, Ok, Err, if◌then◌else◌, inl, inr, refl, sym, ◌∙◌, ap, ap₂, subst, true≢false}
 use Rattle.std.specs.List.{AllByRecursion}
-use denote.Hole.Carrier.{hidden}
+use denote.Hole.Carrier.{hidden, shown}
 use Rattle.floyd_text.specs.declared.place.Place as position
 use Rattle.floyd_text.specs.declared.refusal.Refusal.{Refusal}
 use Rattle.floyd_int.specs.declared.kinds.IntOp.{IntOp}
@@ -31,15 +31,16 @@ use Rattle.floyd_ctyping.specs.Operators as o
 use Rattle.floyd_elab_names.specs.Declarators.{parenthesis, type_named}
 use Rattle.floyd_ctyping.specs.Expressions as typed
 use Rattle.floyd_clight.specs.declared.syntax.Expr.{Expr, Const, Temp, Var, Deref', AddrOf', Unary', Binary', Cast', Field', SizeOf, end_of-Expr, more_of-Expr}
-use Rattle.floyd_clight.specs.declared.syntax.Stmt.{Stmt, Set, If, Loop, Row_of-Stmt, end_of-Stmt, more_of-Stmt, items-the_row-Stmt, items_hidden-the_row-Stmt-0}
-use Rattle.floyd_clight.specs.declared.syntax.Stmt.TheBlock.{hidden-the_row-Stmt-0, hidden-the_row-Stmt-1, shape-the_row-Stmt-1}
+use Rattle.floyd_clight.specs.declared.syntax.Case.{Case}
+use Rattle.floyd_clight.specs.declared.syntax.Stmt.{Stmt, Set, If, Loop, Switch, Row_of-Stmt, end_of-Stmt, more_of-Stmt, items-the_row-Stmt, items_hidden-the_row-Stmt-0, Row_of-Case, end_of-Case, more_of-Case, items-the_row-Case, items_hidden-the_row-Case-2}
+use Rattle.floyd_clight.specs.declared.syntax.Stmt.TheBlock.{hidden-the_row-Stmt-0, hidden-the_row-Stmt-1, shape-the_row-Stmt-1, shown-the_row-Stmt-1, hidden-the_row-Case-2}
 use Rattle.floyd_clight.specs.Types.{type_of}
 use Rattle.floyd_elab_expressions.specs.Clight.{Translated, cast_into, cast_of, combine, literal_zero, test_of, is_truth, sequence, zero, one, is_memory, pulled_name, left_type, right_type, promoted_or_own}
 use Rattle.floyd_elab_expressions.specs.declared.progress.Progress.{Progress}
 use Rattle.floyd_elab_expressions.specs.Progress.{Elaborating, typing}
 use Rattle.floyd_elab_expressions.specs.Expressions as elab
 use Rattle.floyd_elab_expressions.specs.Expressions.{read, pull_read, expression, rvalue, identifier, name_expr, variable_of, with_prefixes, before_operator, prefix_operator, cast_to, binary_operator, subscript, member, before_member}
-use Rattle.floyd_elab_laws.specs.Reads.{reads, place_reads, ReadsByPulls, AllReadByPulls}
+use Rattle.floyd_elab_laws.specs.Reads.{reads, place_reads, ReadsByPulls, AllReadByPulls, CasesReadByPulls}
 use Rattle.floyd_elab_laws.proofs.GivesLemmas.{Gives, after, here, refused, passing}
 use Rattle.floyd_elab_laws.proofs.MeaningLemmas.{typing_gives}
 
@@ -68,6 +69,17 @@ fine_if x a b h g f = (h, g, f)
 pub fine_loop : (a b : Stmt) → ReadsByPulls a → ReadsByPulls b → ReadsByPulls (Loop a b)
 unfolding hidden-the_row-Stmt-1 shape-the_row-Stmt-1 hidden
 fine_loop a b g f = (g, f)
+
+abbrev pub FineCases : List Case → Type 0
+FineCases cases = AllByRecursion (λ (one : Case). ReadsByPulls one.body) cases
+
+case_row : {n : _} (row : Row_of-Case n) → FineCases (items-the_row-Case n row) → CasesReadByPulls row
+unfolding shown-the_row-Stmt-1 shown
+case_row end_of-Case h = tt
+case_row (more_of-Case label p (more_of-Stmt body end_of-Stmt) rest) h = (h.0, case_row rest h.1)
+
+pub fine_switch : (x : Expr) (cases : List Case) → reads x ≡ false → FineCases cases → ReadsByPulls (Switch x cases)
+fine_switch x cases h g = (h, case_row (hidden-the_row-Case-2 cases) (subst FineCases (sym (items_hidden-the_row-Case-2 cases)) g))
 
 -- ---- expressions
 

@@ -5,7 +5,8 @@ use Rattle.floyd_text.specs.declared.place.Place.{Place}
 use Rattle.floyd_text.specs.declared.refusal.Refusal.{Refusal}
 use Rattle.floyd_text.specs.declared.refusal.Halt.{Halt}
 use Rattle.floyd_text.specs.Gives.{Stops}
-use Rattle.floyd_ctypes.specs.declared.ctype.CType.{CType}
+use Rattle.floyd_int.specs.declared.kinds.IntKind.{IntKind}
+use Rattle.floyd_ctypes.specs.declared.ctype.CType.{CType, Int}
 use Rattle.floyd_cparse_trees.specs.declared.expressions.CExpr.{CExpr}
 use Rattle.floyd_elab_names.specs.Refusing.{and_then, unless}
 use Rattle.floyd_elab_names.specs.Refusals.{ill_typed}
@@ -13,6 +14,7 @@ use Rattle.floyd_elab_names.specs.Scopes.{Scopes}
 use Rattle.floyd_elab_names.specs.Types.{is_void}
 use Rattle.floyd_ctyping.specs.Operators as o
 use Rattle.floyd_ctyping.specs.Expressions.{check_test}
+use Rattle.floyd_ctyping.specs.Switches.{switch_kind}
 use Rattle.floyd_clight.specs.declared.syntax.Expr.{Expr}
 use Rattle.floyd_clight.specs.declared.syntax.Stmt as s
 use Rattle.floyd_clight.specs.declared.syntax.Stmt.{Stmt}
@@ -23,10 +25,10 @@ use Rattle.floyd_elab_expressions.specs.Progress.{Elaborating, typing}
 use Rattle.floyd_elab_expressions.specs.Expressions.{rvalue}
 use Rattle.floyd_elab_effects.specs.Effects.{right_side}
 use Rattle.floyd_elab_statements.specs.LocalClauses.{beginning}
-use Rattle.floyd_elab_statements.specs.Statements.{test, loop_test, return_statement}
-use Rattle.floyd_elab_statements.specs.WalkClauses.{judge_test, send_back}
+use Rattle.floyd_elab_statements.specs.Statements.{test, selector, loop_test, return_statement}
+use Rattle.floyd_elab_statements.specs.WalkClauses.{judge_test, select, send_back}
 use Rattle.floyd_elab_statements.proofs.Steps.{goes, stops, stops_as}
-use Rattle.floyd_elab_statements.proofs.Walking.{beside_value, through_value, through_begun, judged_beside, judged_behind, pushed_behind}
+use Rattle.floyd_elab_statements.proofs.Walking.{beside_value, through_value, through_begun, judged_beside, found_beside, judged_behind, pushed_behind}
 
 module _ (scopes : Scopes) (place : Place) (e : CExpr) (there : List Stmt) (p : Progress) where
   test_is : beginning there (test scopes place e p) ≡ and_then (onto there (rvalue scopes e p)) (judge_test place e)
@@ -37,6 +39,15 @@ module _ (scopes : Scopes) (place : Place) (e : CExpr) (there : List Stmt) (p : 
 
   pub test_read : (a : Translated) (q : Progress) → onto there (rvalue scopes e p) ≡ Ok (a, q) → beginning there (test scopes place e p) ≡ judge_test place e a q
   test_read a q e1 = test_is ∙ goes (onto there (rvalue scopes e p)) (judge_test place e) a q e1
+
+  selector_is : beginning there (selector scopes place e p) ≡ and_then (onto there (rvalue scopes e p)) (select place)
+  selector_is = beside_value there (rvalue scopes e p) (select place) (λ a q. found_beside there a.before (typing (switch_kind place a.operand) q) (λ (kind : IntKind). (cast_into (Int kind) a, kind)))
+
+  pub selector_unread : (h : Halt) → Stops h (onto there (rvalue scopes e p)) → Stops h (beginning there (selector scopes place e p))
+  selector_unread h e1 = stops_as h _ _ selector_is (stops h (onto there (rvalue scopes e p)) (select place) e1)
+
+  pub selector_read : (a : Translated) (q : Progress) → onto there (rvalue scopes e p) ≡ Ok (a, q) → beginning there (selector scopes place e p) ≡ select place a q
+  selector_read a q e1 = selector_is ∙ goes (onto there (rvalue scopes e p)) (select place) a q e1
 
   abbrev loop_end : List Stmt × Expr → Elaborating (List Stmt)
   loop_end t q = Ok (t.0 ++ s.If t.1 s.Skip s.Break ∷ [], q)

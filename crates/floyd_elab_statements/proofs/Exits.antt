@@ -1,5 +1,5 @@
 -- Where a call ends early.
-use Rattle.std.specs.Prelude.{Result, Ok, Err, OnOk}
+use Rattle.std.specs.Prelude.{Result, Ok, Err, OnOk, IfOk}
 use Rattle.std.specs.Result.{IsErrAnd}
 use Rattle.std.proofs.Common.{◌≡◌, sym, subst}
 use Rattle.floyd_text.specs.declared.refusal.Refusal.{Refusal}
@@ -11,6 +11,10 @@ use Rattle.floyd_text.specs.Gives.{Stops, Gives}
 pub only_ok : {X E : Type 0} (r : Result X E) (P : E → Type 0) (Q : Type 0) → IsErrAnd r P → OnOk r Q
 only_ok (Ok x) P Q h = absurd h
 only_ok (Err e) P Q h = tt
+
+pub only_err : {X E : Type 0} (r : Result X E) (P : E → Type 0) (Q : X → Type 0) → IsErrAnd r P → IfOk r Q
+only_err (Ok x) P Q h = absurd h
+only_err (Err e) P Q h = tt
 
 -- Nothing is said where memory ran out.
 pub gives_memory : {X Y : Type 0} (view : X → Y) (r : Result X Halt) (w : Result Y Refusal) → IsErrAnd r (λ x. x ≡ Memory) → Gives view r w

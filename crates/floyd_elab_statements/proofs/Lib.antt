@@ -4,5 +4,6 @@ pub mod Walking
 pub mod LocalLemmas
 pub mod PlacedLemmas
 pub mod ConditionLemmas
+pub mod CaseLemmas
 pub mod StatementLemmas
 pub mod ItemLemmas

@@ -52,6 +52,10 @@ pub judged_beside : {S A B : Type 0} (there before : List Stmt) (r : Result (A �
 judged_beside there before (Ok r) b = refl
 judged_beside there before (Err refusal) b = refl
 
+pub found_beside : {S A B : Type 0} (there before : List Stmt) (r : Result (A × S) Refusal) (f : A → B) → beginning there (and_then r (λ a s. Ok ((before, f a), s))) ≡ and_then r (λ a s. Ok ((there ++ before, f a), s))
+found_beside there before (Ok r) f = refl
+found_beside there before (Err refusal) f = refl
+
 pub judged_behind : {S A : Type 0} (there before : List Stmt) (r : Result (A × S) Refusal) (x : Stmt) → put_behind there (and_then r (λ _ s. Ok (before ++ x ∷ [], s))) ≡ and_then r (λ _ s. Ok ((there ++ before) ++ x ∷ [], s))
 judged_behind there before (Ok r) x = pushed_behind there before x r.1
 judged_behind there before (Err refusal) x = refl

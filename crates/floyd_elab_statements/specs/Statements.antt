@@ -1,7 +1,8 @@
 -- Elaboration of statements.
 use Rattle.std.specs.Prelude.{not, List, [], ◌∷◌, ◌++◌, Option, Some, None}
 use Rattle.floyd_text.specs.declared.place.Place.{Place}
-use Rattle.floyd_ctypes.specs.declared.ctype.CType.{CType}
+use Rattle.floyd_int.specs.declared.kinds.IntKind.{IntKind}
+use Rattle.floyd_ctypes.specs.declared.ctype.CType.{CType, Int}
 use Rattle.floyd_cparse_trees.specs.declared.expressions.CExpr.{CExpr}
 use Rattle.floyd_cparse_trees.specs.declared.statements.BlockItem as i
 use Rattle.floyd_cparse_trees.specs.declared.statements.CStatement as c
@@ -12,6 +13,8 @@ use Rattle.floyd_elab_names.specs.Types.{is_void}
 use Rattle.floyd_ctyping.specs.Operators as o
 use Rattle.floyd_elab_names.specs.Declarators.{base_type}
 use Rattle.floyd_ctyping.specs.Expressions.{check_test}
+use Rattle.floyd_ctyping.specs.Switches.{Labels, no_labels, with_label, next_label, switch_kind}
+use Rattle.floyd_clight.specs.declared.syntax.Case.{Case}
 use Rattle.floyd_clight.specs.declared.syntax.Expr.{Expr}
 use Rattle.floyd_clight.specs.declared.syntax.Stmt as s
 use Rattle.floyd_clight.specs.declared.syntax.Stmt.{Stmt}
@@ -42,6 +45,13 @@ optional_test scopes place (Some e) = loop_test scopes place e
 abbrev pub optional_effect : Scopes → Option CExpr → Elaborating (List Stmt)
 optional_effect scopes None = pure []
 optional_effect scopes (Some e) = effect scopes e
+
+-- what a switch looks at: the statements before it, its value at the promoted kind, and that kind
+abbrev pub selector : Scopes → Place → CExpr → Elaborating (List Stmt × (Expr × IntKind))
+selector scopes place e = do
+  a ← rvalue scopes e
+  kind ← typing (switch_kind place a.operand)
+  pure (a.before, (cast_into (Int kind) a, kind))
 
 -- `return` in a function of that result: a value where there is one, and none in a void function
 abbrev pub return_statement : Scopes → CType → Place → Option CExpr → Elaborating (List Stmt)
@@ -84,6 +94,10 @@ module _ (result : CType) where
       behind ← optional_effect scopes third
       inner ← statement scopes body
       pure (before ++ s.Loop (sequence (t ++ inner)) (sequence behind) ∷ [])
+    statement scopes (c.Switch' place e shape rows) = do
+      t ← selector scopes place e
+      made ← cases t.1.1 no_labels scopes rows
+      pure (t.0 ++ s.Switch t.1.0 made ∷ [])
     statement scopes c.Break = pure (s.Break ∷ [])
     statement scopes c.Continue = pure (s.Continue ∷ [])
     statement scopes (c.Return place e) = return_statement scopes result place e
@@ -100,6 +114,15 @@ module _ (result : CType) where
       first ← statement scopes a
       more ← items scopes rest
       pure (first ++ more)
+
+    -- the cases of a switch of that kind, behind those labels
+    pub cases : {m : _} → IntKind → Labels → Scopes → c.Row_of-SwitchCase m → Elaborating (List Case)
+    cases kind before scopes c.end_of-SwitchCase = pure []
+    cases kind before scopes (c.more_of-SwitchCase label p (c.more_of-CStatement body c.end_of-CStatement) rest) = do
+      bits ← typing (next_label kind before label)
+      first ← statement scopes body
+      more ← cases kind (with_label before bits) scopes rest
+      pure (record { label = bits; body = sequence first } ∷ more)
 
   -- the body of a function, whose items stand in the scope of its parameters
   abbrev pub body : Scopes → c.CStatement → Elaborating (List Stmt)

@@ -2,14 +2,18 @@
 use Rattle.std.specs.Prelude.{ℕ, Bool, List, [], ◌∷◌, ◌++◌, Result, Ok, Err, Some}
 use Rattle.floyd_text.specs.declared.place.Place.{Place}
 use Rattle.floyd_text.specs.declared.refusal.Refusal.{Refusal}
-use Rattle.floyd_ctypes.specs.declared.ctype.CType.{CType}
+use Rattle.floyd_int.specs.declared.kinds.IntKind.{IntKind}
+use Rattle.floyd_ctypes.specs.declared.ctype.CType.{CType, Int}
 use Rattle.floyd_cparse_trees.specs.declared.expressions.CExpr.{CExpr}
 use Rattle.floyd_cparse_trees.specs.declared.statements.BlockItem as i
+use Rattle.floyd_cparse_trees.specs.declared.statements.SwitchCase.{SwitchCase}
 use Rattle.floyd_elab_names.specs.Refusing.{◌>>=◌, ◌>>◌, pure, unless}
 use Rattle.floyd_elab_names.specs.Refusals.{ill_typed}
 use Rattle.floyd_elab_names.specs.Scopes.{Scopes}
 use Rattle.floyd_ctyping.specs.Operators as o
 use Rattle.floyd_ctyping.specs.Expressions.{check_test}
+use Rattle.floyd_ctyping.specs.Switches.{Labels, with_label, next_label, switch_kind}
+use Rattle.floyd_clight.specs.declared.syntax.Case.{Case}
 use Rattle.floyd_clight.specs.declared.syntax.Expr.{Expr}
 use Rattle.floyd_clight.specs.declared.syntax.Stmt as s
 use Rattle.floyd_clight.specs.declared.syntax.Stmt.{Stmt}
@@ -34,6 +38,25 @@ module _ (result : CType) where
     more ← all_items made.1 rest
     pure (made.0 ++ more)
 
+  -- a case of a switch of that kind, behind those labels
+  abbrev pub one_case : Scopes → IntKind → Labels → SwitchCase → Elaborating Case
+  one_case scopes kind before one = do
+    bits ← typing (next_label kind before one.label)
+    first ← statement result scopes one.body
+    pure (record { label = bits; body = sequence first })
+
+  abbrev pub all_cases : Scopes → IntKind → Labels → List SwitchCase → Elaborating (List Case)
+  all_cases scopes kind before [] = pure []
+  all_cases scopes kind before (one ∷ rest) = do
+    made ← one_case scopes kind before one
+    more ← all_cases scopes kind (with_label before made.label) rest
+    pure (made ∷ more)
+
+-- cases behind those that were there before
+abbrev pub cases_behind : {S : Type 0} → List Case → Result (List Case × S) Refusal → Result (List Case × S) Refusal
+cases_behind there (Ok r) = Ok (there ++ r.0, r.1)
+cases_behind there (Err refusal) = Err refusal
+
 -- statements as one, behind those that stand before them
 abbrev pub sequence_behind : {S : Type 0} → List Stmt → Result (List Stmt × S) Refusal → Result (Stmt × S) Refusal
 sequence_behind before (Ok r) = Ok (sequence (before ++ r.0), r.1)
@@ -53,6 +76,12 @@ abbrev pub judge_test : Place → CExpr → Translated → Elaborating (List Stm
 judge_test place e a = do
   typing (check_test place a.operand)
   pure (a.before, test_of e a)
+
+-- what a switch looks at, of what was translated
+abbrev pub select : Place → Translated → Elaborating (List Stmt × (Expr × IntKind))
+select place a = do
+  kind ← typing (switch_kind place a.operand)
+  pure (a.before, (cast_into (Int kind) a, kind))
 
 -- `return` of what was translated, in a function of that result
 abbrev pub send_back : CType → Place → Translated → Elaborating (List Stmt)

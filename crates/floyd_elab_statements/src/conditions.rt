@@ -5,15 +5,17 @@ ghost use Rattle.floyd_clight.specs.declared.syntax.Stmt.{Stmt, If, Skip as DoNo
 ghost use Rattle.floyd_elab_expressions.specs.Behind.{behind, put_behind};
 ghost use Rattle.floyd_elab_expressions.specs.declared.progress.Progress.{Progress as Kept};
 ghost use Rattle.floyd_elab_statements.specs.LocalClauses.{beginning};
-ghost use Rattle.floyd_elab_statements.specs.Statements.{test as test_lem, loop_test as loop_test_lem, optional_test as optional_test_lem, optional_effect as optional_effect_lem};
-ghost use Rattle.floyd_elab_statements.specs.WalkClauses.{judge_test as judge_test_lem};
+ghost use Rattle.floyd_elab_statements.specs.Statements.{test as test_lem, selector as selector_lem, loop_test as loop_test_lem, optional_test as optional_test_lem, optional_effect as optional_effect_lem};
+ghost use Rattle.floyd_elab_statements.specs.WalkClauses.{judge_test as judge_test_lem, select as select_lem};
 
 use floyd_clight::{Expr, Stmt, StmtList};
 use floyd_cparse_trees::CExpr;
-use floyd_ctyping::check_test;
+use floyd_ctypes::CType;
+use floyd_ctyping::{check_test, switch_kind};
 use floyd_elab_effects::effect;
-use floyd_elab_expressions::{Progress, Translation, rvalue, test_of};
+use floyd_elab_expressions::{Progress, Translation, cast_into, rvalue, test_of};
 use floyd_elab_names::Names;
+use floyd_int::IntKind;
 use floyd_text::{Halt, Place, Shared};
 use std::alloc::{AllocError, Global};
 
@@ -38,6 +40,30 @@ fn judge_test(alloc: Global, place: Place, e: &CExpr, a: &Translation) -> Result
 {
     check_test(alloc, place, &a.operand)?;
     Ok(test_of(alloc, e, a)?)
+}
+
+/// What a switch looks at, at its promoted kind, and that kind. It is ill typed at the word of the statement.
+pub(crate) fn selector(
+    alloc: Global,
+    names: &Names,
+    place: Place,
+    e: &CExpr,
+    progress: &mut Progress,
+    out: &mut StmtList,
+) -> Result<(Expr, IntKind), Halt>
+    ensures exact { Gives (λ x. ((out.new, x), progress.new)) result (beginning out.old (selector_lem names.now place e.now progress.old)) }
+{
+    let a = rvalue(alloc, names, e, progress, out)?;
+    select(alloc, place, &a)
+}
+
+/// What a switch looks at, of what was translated.
+fn select(alloc: Global, place: Place, a: &Translation) -> Result<(Expr, IntKind), Halt>
+    ensures exact { (before : List Stmt) (progress : Kept) → Gives (λ x. ((before, x), progress)) result (select_lem place (behind before a.now) progress) }
+{
+    let kind = switch_kind(alloc, place, &a.operand)?;
+    let value = cast_into(alloc, &CType::Int(kind), a)?;
+    Ok((value, kind))
 }
 
 /// Pushes an `if` with these branches.

@@ -1,29 +1,32 @@
 //! Statements.
 ghost use Rattle.std.specs.Prelude.{◌≡◌, ◌∷◌, [], ◌++◌, ℕ, Bool, List, IfOk, OnOk};
 ghost use Rattle.floyd_text.specs.Gives.{Gives};
-ghost use Rattle.floyd_cparse_trees.specs.declared.statements.CStatement.{Block, If as OfIf, While as OfWhile, Do as OfDo, For as OfFor};
+ghost use Rattle.floyd_cparse_trees.specs.declared.statements.CStatement.{Block, If as OfIf, While as OfWhile, Do as OfDo, For as OfFor, Switch as OfSwitch};
 ghost use Rattle.floyd_clight.specs.declared.syntax.Stmt.{If as MadeIf, Loop as MadeLoop};
+ghost use Rattle.floyd_ctyping.specs.Switches.{no_labels, with_label};
 ghost use Rattle.floyd_elab_names.specs.Scopes.{leave};
 ghost use Rattle.floyd_elab_expressions.specs.Behind.{put_behind};
 ghost use Rattle.floyd_elab_expressions.specs.Clight.{sequence as sequence_lem};
 ghost use Rattle.floyd_elab_expressions.specs.declared.progress.Progress.{Progress as Kept};
 ghost use Rattle.floyd_elab_addresses.specs.Flags.{statement_flags};
-ghost use Rattle.floyd_elab_addresses.specs.PartClauses.{flags_of_all, flags_of_item};
+ghost use Rattle.floyd_elab_addresses.specs.PartClauses.{flags_of_all, flags_of_cases, flags_of_item};
 ghost use Rattle.floyd_elab_statements.specs.LocalClauses.{beginning};
 ghost use Rattle.floyd_elab_statements.specs.Statements.{statement as statement_lem, body as body_lem, loop_test as loop_test_lem, optional_effect as optional_effect_lem};
-ghost use Rattle.floyd_elab_statements.specs.WalkClauses.{item as item_lem, all_items, sequence_behind, with_one, with_else};
+ghost use Rattle.floyd_elab_statements.specs.WalkClauses.{item as item_lem, all_items, one_case, all_cases, sequence_behind, with_one, with_else};
 
-use crate::conditions::{loop_test, optional_effect, optional_test, push_if, test};
+use crate::conditions::{loop_test, optional_effect, optional_test, push_if, selector, test};
 use crate::function::Function;
 use crate::locals::declaration;
 use crate::returns::return_statement;
-use floyd_clight::{Expr, Stmt, StmtList};
-use floyd_cparse_trees::{BlockItem, CExpr, CStatement};
+use floyd_clight::{Case, CaseList, Expr, Stmt, StmtList};
+use floyd_cparse_trees::{BlockItem, CExpr, CStatement, SwitchCase};
 use floyd_ctypes::CType;
+use floyd_ctyping::Labels;
 use floyd_elab_addresses::{Flags, block_addresses};
 use floyd_elab_effects::effect;
 use floyd_elab_expressions::{Progress, sequence};
 use floyd_elab_names::Names;
+use floyd_int::IntKind;
 use floyd_text::{Halt, Place, Shared};
 use sqlite_items::Items;
 use std::alloc::{AllocError, Global};
@@ -62,6 +65,13 @@ struct ForParts<'a> {
     first: &'a Option<CExpr>,
     condition: &'a Option<CExpr>,
     third: &'a Option<CExpr>,
+}
+
+/// A switch in a function, with the kind of what it looks at.
+#[derive(Clone, Copy)]
+struct Switched<'a> {
+    function: Function<'a>,
+    kind: IntKind,
 }
 
 /// An `if` in a function whose second branch is left.
@@ -186,6 +196,18 @@ fn statement(
                 third,
             };
             for_loop(body.get(), parts, names, flags, progress, out)
+        }
+        CStatement::Switch {
+            place,
+            value,
+            cases,
+        } => {
+            let parts = Tested {
+                function,
+                place: *place,
+                condition: value,
+            };
+            switch(cases.as_slice(), parts, names, flags, progress, out)
         }
         CStatement::Break => push_one(Stmt::Break, out),
         CStatement::Continue => push_one(Stmt::Continue, out),
@@ -397,6 +419,84 @@ fn for_loop(
     let first = single(parts.function, body, names, flags, progress, inner)?;
     push_loop(first, second, out)?;
     Ok(())
+}
+
+/// `switch`: what it looks at stands before its cases.
+#[cycle(statement)]
+fn switch(
+    cases: &[SwitchCase],
+    parts: Tested<'_>,
+    names: &mut Names,
+    flags: &mut Flags,
+    progress: &mut Progress,
+    out: &mut StmtList,
+) -> Result<(), Halt>
+    ensures exact { (more : List Bool) → flags.old ≡ flags_of_cases cases.now ++ more → Gives (λ u. (out.new, progress.new)) result (put_behind out.old (statement_lem parts.entry.function.result_type.now names.old (OfSwitch parts.entry.place parts.entry.condition.now cases.now) progress.old)) }
+    ensures flags { (more : List Bool) → flags.old ≡ flags_of_cases cases.now ++ more → OnOk result (flags.new ≡ more) }
+    ensures names { OnOk result (names.new ≡ names.old) }
+{
+    let function = parts.function;
+    let (value, kind) = selector(
+        function.alloc,
+        names,
+        parts.place,
+        parts.condition,
+        progress,
+        out,
+    )?;
+    let made = switch_cases(cases, Switched { function, kind }, names, flags, progress)?;
+    out.push(Stmt::Switch(value, made))?;
+    Ok(())
+}
+
+/// The cases of a switch.
+#[cycle(statement)]
+fn switch_cases(
+    cases: &[SwitchCase],
+    parts: Switched<'_>,
+    names: &mut Names,
+    flags: &mut Flags,
+    progress: &mut Progress,
+) -> Result<CaseList, Halt>
+    ensures exact { (more : List Bool) → flags.old ≡ flags_of_cases cases.now ++ more → Gives (λ all. (all, progress.new)) result (all_cases parts.entry.function.result_type.now names.old parts.entry.kind no_labels cases.now progress.old) }
+    ensures flags { (more : List Bool) → flags.old ≡ flags_of_cases cases.now ++ more → OnOk result (flags.new ≡ more) }
+    ensures names { OnOk result (names.new ≡ names.old) }
+{
+    let mut labels = Labels::new(parts.function.alloc);
+    let mut all = Items::new(parts.function.alloc);
+    'cases: for case in cases {
+        let made = switch_case(case, parts, &mut labels, names, flags, progress)?;
+        all.push(made)?;
+    }
+    Ok(all)
+}
+
+/// A case of a switch, behind those with these labels.
+#[cycle(statement)]
+fn switch_case(
+    case: &SwitchCase,
+    parts: Switched<'_>,
+    labels: &mut Labels,
+    names: &mut Names,
+    flags: &mut Flags,
+    progress: &mut Progress,
+) -> Result<Case, Halt>
+    ensures exact { (more : List Bool) → flags.old ≡ statement_flags case.now.body ++ more → Gives (λ x. (x, progress.new)) result (one_case parts.entry.function.result_type.now names.old parts.entry.kind labels.old case.now progress.old) }
+    ensures flags { (more : List Bool) → flags.old ≡ statement_flags case.now.body ++ more → OnOk result (flags.new ≡ more) }
+    ensures names { OnOk result (names.new ≡ names.old) }
+    ensures labels { IfOk result (λ x. labels.new ≡ with_label labels.old x.label) }
+{
+    let label = labels.add(parts.kind, &case.label)?;
+    let none = Items::new(parts.function.alloc);
+    let body = single(
+        parts.function,
+        case.body.get(),
+        names,
+        flags,
+        progress,
+        none,
+    )?;
+    Ok(Case { label, body })
 }
 
 /// The test behind the body of a loop.

@@ -3,7 +3,7 @@
 //! A type is read from left to right: `int*[3]` is an array of three pointers. A temporary is written by its name, a
 //! variable or a function of the file with `@` before it, a local variable with a block in brackets. `=` sets a temporary
 //! and `:=` stores. With `typed` each expression has its type behind it.
-use floyd_clight::{Binding, Expr, Stmt, UnaryOp};
+use floyd_clight::{Binding, Case, Expr, Stmt, UnaryOp};
 use floyd_ctypes::CType;
 use floyd_int::{IntKind, IntOp, Value};
 use floyd_text::Name;
@@ -286,7 +286,30 @@ pub(crate) fn print_stmt(text: &mut String, typed: bool, s: &Stmt) -> Result<(),
         Stmt::Break => text.push_str("break;"),
         Stmt::Continue => text.push_str("continue;"),
         Stmt::Return(e) => print_return(text, typed, e),
-        Stmt::Switch(_, _) => text.push_str("switch?"),
+        Stmt::Switch(e, cases) => {
+            text.push_str("switch ")?;
+            print_expr(text, typed, e)?;
+            print_cases(text, typed, cases.as_slice())
+        }
+    }
+}
+
+/// The cases of a switch, in braces.
+#[cycle(statements)]
+fn print_cases(text: &mut String, typed: bool, cases: &[Case]) -> Result<(), AllocError> {
+    text.push_str(" { ")?;
+    'cases: for case in cases {
+        print_label(text, case.label)?;
+        print_stmt(text, typed, case.body.get())?;
+        text.push(' ')?;
+    }
+    text.push('}')
+}
+
+fn print_label(text: &mut String, label: Option<u64>) -> Result<(), AllocError> {
+    match label {
+        Some(bits) => write!(text, "case {bits}: "),
+        None => text.push_str("default: "),
     }
 }
 

@@ -1,12 +1,13 @@
 use Rattle.std.proofs.Common.{◌≡◌, ℕ, ◌+◌, ◌-◌, ◌<◌, arith, ◌||◌, List, length, drop, ◌++◌, refl, ap, sym, ◌∙◌, inl, inr}
 use Rattle.std.proofs.Math.Seq.{drop-length}
 use Rattle.std.proofs.lemmas.Result.{on_ok_weaker}
+use Rattle.floyd_cparse_trees.specs.declared.statements.SwitchCase.{SwitchCase}
 use Rattle.floyd_elab_addresses.specs.Addresses.{in_expression, in_option, in_statement}
 use Rattle.floyd_elab_addresses.specs.Flags.{statement_flags}
-use Rattle.floyd_elab_addresses.specs.PartClauses.{in_all, flags_of_all}
+use Rattle.floyd_elab_addresses.specs.PartClauses.{in_all, in_any_case, flags_of_all, flags_of_cases}
 use Rattle.floyd_elab_addresses.specs.SetClauses.{is_among}
 use Rattle.floyd_elab_addresses.proofs.Adding.{or-swap, adds_as, adds_then}
-use Rattle.floyd_elab_addresses.proofs.StatementParts.{in-block, flags-block, in-if, in-if_else, in-while, in-do, in-for, flags-if, flags-if_else, flags-while, flags-do, flags-for, flags_of_one, flags_of_two, declaration_in, declaration_flags, statement_in, item_flags_of, in_next_item, flags_next_item}
+use Rattle.floyd_elab_addresses.proofs.StatementParts.{in-block, flags-block, in-switch, flags-switch, flags_of_switch, in_next_case, flags_next_case, in-if, in-if_else, in-while, in-do, in-for, flags-if, flags-if_else, flags-while, flags-do, flags-for, flags_of_one, flags_of_two, declaration_in, declaration_flags, statement_in, item_flags_of, in_next_item, flags_next_item}
 use Rattle.floyd_elab_addresses.proofs.statements.+statement.Goals as goal
 
 pub statement-returns-in-Effect : goal.statement-returns-in-Effect
@@ -222,4 +223,63 @@ block-returns t c =
     record {
       taken = λ x. c.items.invariant.taken x ∙ ap (λ n. in_all x (drop n items)) none;
       flags = c.items.invariant.flags ∙ ap (λ n. flags_of_all (drop n items) ++ c.args.flags.now) none;
+    }
+
+pub statement-returns-in_ok-expression-in-Switch : goal.statement-returns-in_ok-expression-in-Switch
+statement-returns-in_ok-expression-in-Switch t c =
+    let s = c.args.s.now in
+    let place = c.in-Switch.place in
+    let value = c.in-Switch.value in
+    let cases = c.in-Switch.cases in
+    let got = c.as_slice-in-Switch.result.now in
+    record {
+      taken = on_ok_weaker _
+          (adds_then c.args.taken.now c.expression-in-Switch.new.self c.switch_cases.new.taken
+          (λ x. in_expression x value) (λ x. in_any_case x got) (λ x. in_statement x s)
+          (λ x.
+          ap (in_statement x) c.in-Switch.is
+          ∙ in-switch x place value cases
+          ∙ sym (ap (λ u. in_expression x value || in_any_case x u) c.as_slice-in-Switch.ensures))
+          c.in_ok-expression-in-Switch.ensures)
+          c.switch_cases.ensures.taken;
+      flags = on_ok_weaker _
+          (flags_of_switch s got c.switch_cases.new.flags c.args.flags.now
+          (ap statement_flags c.in-Switch.is ∙ flags-switch place value cases ∙ sym (ap flags_of_cases c.as_slice-in-Switch.ensures)))
+          c.switch_cases.ensures.flags;
+    }
+
+pub switch_cases-cases-init : goal.switch_cases-cases-init
+switch_cases-cases-init t c =
+    let cases = c.args.cases.now in
+    record {
+      taken = λ x. sym (ap (λ v. in_any_case x v || is_among c.args.taken.now x) (drop-length cases));
+      flags = sym (ap (λ v. flags_of_cases v ++ c.args.flags.now) (drop-length cases));
+    }
+
+pub switch_cases-cases-preserved : goal.switch_cases-cases-preserved
+switch_cases-cases-preserved t c =
+    let all = c.args.cases.now in
+    let k = c.cases.i in
+    let j = k - 1 in
+    let one = c.index-cases-i.result in
+    let body = c.get.result.now in
+    let has : body ≡ one.body = c.get.ensures ∙ ap (λ (x : SwitchCase). x.body) (sym c.index-cases-i.is) in
+    let step : j + 1 ≡ k = omega arith in
+    let within : j < length all = omega arith in
+    record {
+      taken =
+          in_next_case all k j one step within c.index-cases-i.is body has c.args.taken.now c.cases.taken c.statement.new.taken
+          c.in_ok-statement.ensures.taken c.cases.invariant.taken;
+      flags =
+          flags_next_case all k j one step within c.index-cases-i.is body has c.statement.new.flags c.cases.flags c.args.flags.now
+          c.in_ok-statement.ensures.flags c.cases.invariant.flags;
+    }
+
+pub switch_cases-returns : goal.switch_cases-returns
+switch_cases-returns t c =
+    let cases = c.args.cases.now in
+    let none : c.cases.i ≡ 0 = omega arith in
+    record {
+      taken = λ x. c.cases.invariant.taken x ∙ ap (λ n. in_any_case x (drop n cases) || is_among c.args.taken.now x) none;
+      flags = c.cases.invariant.flags ∙ ap (λ n. flags_of_cases (drop n cases) ++ c.args.flags.now) none;
     }

@@ -16,6 +16,6 @@ returns-in_err-call c =
 pub returns : goal.returns
 returns c = record {
   exact =
-      alone_goes c.args.names.now c.args.form.function.now c.args.form.place c.args.form.arguments.now c.args.out.now (call_with c.calling.new.out c.in_ok-call.call) c.args.progress.now c.calling.new.progress c.in_ok-call.ensures.exact
-      ∙ ap (λ (l : List Stmt). let done : Result (List Stmt × Progress) Refusal = Ok (l, c.calling.new.progress) in done) (sym c.in_ok-push_call.ensures);
+      alone_goes c.args.names.now c.args.form.function.now c.args.form.place c.args.form.arguments.now c.args.out.now (call_with c.parts_of_call.new.out c.in_ok-call.call) c.args.progress.now c.parts_of_call.new.progress c.in_ok-call.ensures.exact
+      ∙ ap (λ (l : List Stmt). let done : Result (List Stmt × Progress) Refusal = Ok (l, c.parts_of_call.new.progress) in done) (sym c.in_ok-push_call.ensures);
 }

@@ -11,4 +11,4 @@ returns-in_err-call c =
     record { exact = rw (r.1, r.2) (result_stops c.args.names.now c.args.form.function.now c.args.form.place c.args.form.arguments.now c.args.out.now c.args.progress.now c.in_err-call.field-0.0 c.in_err-call.ensures.exact) }
 
 pub returns : goal.returns
-returns c = record { exact = subst (Gives _ c.call_result.result) (sym (result_goes c.args.names.now c.args.form.function.now c.args.form.place c.args.form.arguments.now c.args.out.now (call_with c.calling.new.out c.in_ok-call.call) c.args.progress.now c.calling.new.progress c.in_ok-call.ensures.exact)) (c.call_result.ensures.exact c.args.names.now) }
+returns c = record { exact = subst (Gives _ c.call_result.result) (sym (result_goes c.args.names.now c.args.form.function.now c.args.form.place c.args.form.arguments.now c.args.out.now (call_with c.parts_of_call.new.out c.in_ok-call.call) c.args.progress.now c.parts_of_call.new.progress c.in_ok-call.ensures.exact)) (c.call_result.ensures.exact c.args.names.now) }

@@ -7,19 +7,22 @@ use Rattle.floyd_text.specs.declared.refusal.Refusal.{Refusal}
 use Rattle.floyd_cparse_trees.specs.declared.expressions.CExpr.{CExpr}
 use Rattle.floyd_cparse_trees.specs.declared.statements.CStatement as c_of
 use Rattle.floyd_elab_names.specs.Scopes.{leave}
+use Rattle.floyd_ctyping.specs.Switches.{Labels, no_labels, with_label, next_label}
+use Rattle.floyd_clight.specs.declared.syntax.Case.{Case}
 use Rattle.floyd_clight.specs.declared.syntax.Stmt.{Stmt}
 use Rattle.floyd_elab_expressions.specs.declared.progress.Progress.{Progress}
 use Rattle.floyd_elab_expressions.specs.Behind.{put_behind}
 use Rattle.floyd_elab_addresses.specs.Flags.{statement_flags}
-use Rattle.floyd_elab_addresses.specs.PartClauses.{in_all, flags_of_all, flags_of_item}
-use Rattle.floyd_elab_addresses.proofs.StatementParts.{flags-if, flags-if_else, flags-while, flags-do, flags-for, flags-block}
+use Rattle.floyd_elab_addresses.specs.PartClauses.{in_all, flags_of_all, flags_of_cases, flags_of_item}
+use Rattle.floyd_elab_addresses.proofs.StatementParts.{flags-if, flags-if_else, flags-while, flags-do, flags-for, flags-switch, flags-block}
 use Rattle.floyd_elab_statements.specs.LocalClauses.{beginning}
 use Rattle.floyd_elab_statements.specs.Statements.{statement, loop_test, optional_test}
-use Rattle.floyd_elab_statements.specs.WalkClauses.{item, all_items, sequence_behind, with_else}
-use Rattle.floyd_elab_statements.proofs.Steps.{gives_err, gives_as, stops_as, on_ok, beside_same, appended_none}
-use Rattle.floyd_elab_statements.proofs.Exits.{only_ok}
+use Rattle.floyd_elab_statements.specs.WalkClauses.{item, all_items, all_cases, cases_behind, sequence_behind, with_else}
+use Rattle.floyd_elab_statements.proofs.Steps.{gives_err, gives_as, stops_as, on_ok, typed, typing_stops, beside_same, appended_none}
+use Rattle.floyd_elab_statements.proofs.Exits.{only_ok, only_err}
 use Rattle.floyd_elab_statements.proofs.Walking.{in_empty, empty_stops, sequenced_goes, sequenced_stops, outer_same, names_as}
 use Rattle.floyd_elab_statements.proofs.ItemLemmas.{block_is, next_item, stopped_item, flags_first}
+use Rattle.floyd_elab_statements.proofs.CaseLemmas.{behind_none, label_stops, body_stops, case_goes, next_case, stopped_case, switch_stops, cases_stop, switch_goes, flags_first_case}
 use Rattle.floyd_elab_statements.proofs.StatementLemmas.{if_stops, if_branch_stops, if_goes, if_else_stops, then_stops, then_goes, else_stops, else_goes, while_stops, while_body_stops, while_goes, do_stops, do_test_stops, do_goes, for_stops, for_test_stops, for_third_stops, for_body_stops, for_goes}
 use Rattle.floyd_elab_statements.proofs.statements.+statement.Goals as goal
 
@@ -179,6 +182,20 @@ statement-returns-in-For t c =
           (c.for_loop.ensures.exact more (are ∙ ap (λ fs. fs ++ more) (ap statement_flags whole ∙ flags-for place first e third a)));
       flags = λ more are. c.for_loop.ensures.flags more (are ∙ ap (λ fs. fs ++ more) (ap statement_flags whole ∙ flags-for place first e third a));
       names = c.for_loop.ensures.names;
+    }
+
+pub statement-returns-in-Switch : goal.statement-returns-in-Switch
+statement-returns-in-Switch t c =
+    let place = c.in-Switch.place in
+    let e = c.in-Switch.value in
+    let all = c.as_slice-in-Switch.result.now in
+    let whole : c.args.s.now ≡ c_of.Switch place e all = c.in-Switch.is ∙ ap (λ l. c_of.Switch place e l) (sym c.as_slice-in-Switch.ensures) in
+    record {
+      exact = λ more are.
+          gives_as _ c.switch.result _ _ (ap (λ u. put_behind c.args.out.now (statement c.args.function.result_type.now c.args.names.now u c.args.progress.now)) whole)
+          (c.switch.ensures.exact more (are ∙ ap (λ fs. fs ++ more) (ap statement_flags whole ∙ flags-switch place e all)));
+      flags = λ more are. c.switch.ensures.flags more (are ∙ ap (λ fs. fs ++ more) (ap statement_flags whole ∙ flags-switch place e all));
+      names = c.switch.ensures.names;
     }
 
 pub statement-returns-in-Break : goal.statement-returns-in-Break
@@ -584,4 +601,179 @@ for_loop-returns t c =
           (c.in_ok-first.ensures.exact more are) c.in_ok-push_loop.ensures;
       flags = λ more are. c.in_ok-first.ensures.flags more are;
       names = c.in_ok-first.ensures.names;
+    }
+
+-- `switch`.
+
+pub switch-returns-in_err-value : goal.switch-returns-in_err-value
+switch-returns-in_err-value t c =
+    let h = c.in_err-value.field-0.0 in
+    let r = c.from_residual in
+    record {
+      exact = λ more are.
+          gives_err _ r.result h _ r.ensures.1
+          (switch_stops c.args.parts.function.result_type.now c.args.names.now c.args.parts.place c.args.parts.condition.now c.args.cases.now c.args.out.now c.args.progress.now h c.in_err-value.ensures.exact);
+      flags = λ more are. only_ok r.result _ _ r.ensures.1;
+      names = only_ok r.result _ _ r.ensures.1;
+    }
+
+pub switch-returns-in_err-made : goal.switch-returns-in_err-made
+switch-returns-in_err-made t c =
+    let h = c.in_err-made.field-0.0 in
+    let r = c.from_residual-in_err-made in
+    let q = c.selector.new.progress in
+    record {
+      exact = λ more are.
+          gives_err _ r.result h _ r.ensures.1
+          (cases_stop c.args.parts.function.result_type.now c.args.names.now c.args.parts.place c.args.parts.condition.now c.args.cases.now c.args.out.now c.args.progress.now
+          c.selector.new.out c.in_ok-value.value c.in_ok-value.kind q c.in_ok-value.ensures.exact h (c.in_err-made.ensures.exact more are));
+      flags = λ more are. only_ok r.result _ _ r.ensures.1;
+      names = only_ok r.result _ _ r.ensures.1;
+    }
+
+pub switch-returns : goal.switch-returns
+switch-returns t c =
+    let q = c.selector.new.progress in
+    record {
+      exact = λ more are.
+          switch_goes c.args.parts.function.result_type.now c.args.names.now c.args.parts.place c.args.parts.condition.now c.args.cases.now c.args.out.now c.args.progress.now
+          c.selector.new.out c.in_ok-value.value c.in_ok-value.kind q c.in_ok-value.ensures.exact
+          c.in_ok-made.made c.push.new.self c.switch_cases.new.progress (c.in_ok-made.ensures.exact more are) c.in_ok-push.ensures.ok;
+      flags = λ more are. c.in_ok-made.ensures.flags more are;
+      names = c.in_ok-made.ensures.names;
+    }
+
+-- The cases.
+
+pub switch_cases-cases-init : goal.switch_cases-cases-init
+switch_cases-cases-init t c =
+    record {
+      names = refl;
+      flags = λ more h. h;
+      exact = λ more h.
+          behind_none (all_cases c.args.parts.function.result_type.now c.args.names.now c.args.parts.kind no_labels c.args.cases.now c.args.progress.now)
+          ∙ ap (λ (l : List Case). cases_behind l (all_cases c.args.parts.function.result_type.now c.args.names.now c.args.parts.kind no_labels c.args.cases.now c.args.progress.now)) (sym c.new-all.ensures)
+          ∙ ap (λ (l : Labels). cases_behind c.new-all.result (all_cases c.args.parts.function.result_type.now c.args.names.now c.args.parts.kind l c.args.cases.now c.args.progress.now)) (sym c.new-labels.ensures);
+    }
+
+pub switch_cases-cases-preserved : goal.switch_cases-cases-preserved
+switch_cases-cases-preserved t c =
+    let result = c.args.parts.function.result_type.now in
+    let kind = c.args.parts.kind in
+    let cases = c.args.cases.now in
+    let at = c.cases.case-index in
+    let one = c.case-item.result in
+    let rest = drop (at + 1) cases in
+    let made = c.in_ok-made.made in
+    let q = c.switch_case.new.progress in
+    let within : at < length cases = omega arith in
+    let split : drop at cases ≡ one ∷ rest = drop_more cases at one within ∙ ap (λ v. v ∷ rest) (sym c.case-item.is) in
+    record {
+      names = c.in_ok-made.ensures.names ∙ c.cases.invariant.names;
+      flags = λ more h. c.in_ok-made.ensures.flags (flags_of_cases rest ++ more) (flags_first_case one rest (drop at cases) c.cases.flags more split (c.cases.invariant.flags more h));
+      exact = λ more h.
+          c.cases.invariant.exact more h
+          ∙ ap (λ l. cases_behind c.cases.all (all_cases result c.cases.names kind c.cases.labels l c.cases.progress)) split
+          ∙ next_case result c.cases.all c.cases.names kind c.cases.labels one rest c.cases.progress made q
+          (c.in_ok-made.ensures.exact (flags_of_cases rest ++ more) (flags_first_case one rest (drop at cases) c.cases.flags more split (c.cases.invariant.flags more h)))
+          ∙ ap (λ n. cases_behind (c.cases.all ++ made ∷ []) (all_cases result n kind (with_label c.cases.labels made.label) rest q)) (sym c.in_ok-made.ensures.names)
+          ∙ ap (λ (l : Labels). cases_behind (c.cases.all ++ made ∷ []) (all_cases result c.switch_case.new.names kind l rest q)) (sym c.in_ok-made.ensures.labels)
+          ∙ ap (λ (l : List Case). cases_behind l (all_cases result c.switch_case.new.names kind c.switch_case.new.labels rest q)) (sym c.in_ok-push.ensures.ok);
+    }
+
+pub switch_cases-returns-in_err-made : goal.switch_cases-returns-in_err-made
+switch_cases-returns-in_err-made t c =
+    let result = c.args.parts.function.result_type.now in
+    let kind = c.args.parts.kind in
+    let cases = c.args.cases.now in
+    let at = c.cases.case-index in
+    let one = c.case-item.result in
+    let rest = drop (at + 1) cases in
+    let within : at < length cases = omega arith in
+    let split : drop at cases ≡ one ∷ rest = drop_more cases at one within ∙ ap (λ v. v ∷ rest) (sym c.case-item.is) in
+    let h = c.in_err-made.field-0.0 in
+    let r = c.from_residual in
+    record {
+      exact = λ more are.
+          gives_err _ r.result h _ r.ensures.1
+          (stops_as h _ _
+          (c.cases.invariant.exact more are ∙ ap (λ l. cases_behind c.cases.all (all_cases result c.cases.names kind c.cases.labels l c.cases.progress)) split)
+          (stopped_case result c.cases.all c.cases.names kind c.cases.labels one rest c.cases.progress h
+          (c.in_err-made.ensures.exact (flags_of_cases rest ++ more) (flags_first_case one rest (drop at cases) c.cases.flags more split (c.cases.invariant.flags more are)))));
+      flags = λ more are. only_ok r.result _ _ r.ensures.1;
+      names = only_ok r.result _ _ r.ensures.1;
+    }
+
+pub switch_cases-returns : goal.switch_cases-returns
+switch_cases-returns t c =
+    let result = c.args.parts.function.result_type.now in
+    let kind = c.args.parts.kind in
+    let cases = c.args.cases.now in
+    let at_end : c.cases.case-index ≡ length cases = omega arith in
+    let done : drop c.cases.case-index cases ≡ [] = ap (λ n. drop n cases) at_end ∙ drop-length cases in
+    record {
+      exact = λ more h.
+          c.cases.invariant.exact more h
+          ∙ ap (λ l. cases_behind c.cases.all (all_cases result c.cases.names kind c.cases.labels l c.cases.progress)) done
+          ∙ ap (λ (l : List Case). let made : Result (List Case × Progress) Refusal = Ok (l, c.cases.progress) in made) (append-nil c.cases.all);
+      flags = λ more h. c.cases.invariant.flags more h ∙ ap (λ l. flags_of_cases l ++ more) done;
+      names = c.cases.invariant.names;
+    }
+
+pub switch_case-returns-in_err-label : goal.switch_case-returns-in_err-label
+switch_case-returns-in_err-label t c =
+    let h = c.in_err-label.field-0.0 in
+    let r = c.from_residual in
+    let p = c.args.progress.now in
+    let one = c.args.case.now in
+    record {
+      exact = λ more are.
+          gives_err _ r.result h _ r.ensures.1
+          (label_stops c.args.parts.function.result_type.now c.args.names.now c.args.parts.kind c.args.labels.now one p h
+          (typing_stops h (next_label c.args.parts.kind c.args.labels.now one.label) p (c.in_err-label.ensures.exact p.tags)));
+      flags = λ more are. only_ok r.result _ _ r.ensures.1;
+      names = only_ok r.result _ _ r.ensures.1;
+      labels = only_err r.result _ _ r.ensures.1;
+    }
+
+pub switch_case-returns-in_err-body : goal.switch_case-returns-in_err-body
+switch_case-returns-in_err-body t c =
+    let result = c.args.parts.function.result_type.now in
+    let names = c.args.names.now in
+    let h = c.in_err-body.field-0.0 in
+    let r = c.from_residual-in_err-body in
+    let p = c.args.progress.now in
+    let one = c.args.case.now in
+    let got = c.get.result.now in
+    let bits = c.in_ok-label.label in
+    record {
+      exact = λ more are.
+          gives_err _ r.result h _ r.ensures.1
+          (body_stops result names c.args.parts.kind c.args.labels.now one p bits p (typed (next_label c.args.parts.kind c.args.labels.now one.label) p bits p.tags (c.in_ok-label.ensures.exact p.tags)) h
+          (stops_as h _ _ (ap (λ u. sequence_behind [] (statement result names u p)) (sym c.get.ensures))
+          (empty_stops (λ l. sequence_behind l (statement result names got p)) c.new-none.result h c.new-none.ensures
+          (c.in_err-body.ensures.exact more (are ∙ ap (λ u. statement_flags u ++ more) (sym c.get.ensures))))));
+      flags = λ more are. only_ok r.result _ _ r.ensures.1;
+      names = only_ok r.result _ _ r.ensures.1;
+      labels = only_err r.result _ _ r.ensures.1;
+    }
+
+pub switch_case-returns : goal.switch_case-returns
+switch_case-returns t c =
+    let result = c.args.parts.function.result_type.now in
+    let names = c.args.names.now in
+    let p = c.args.progress.now in
+    let one = c.args.case.now in
+    let got = c.get.result.now in
+    let bits = c.in_ok-label.label in
+    record {
+      exact = λ more are.
+          case_goes result names c.args.parts.kind c.args.labels.now one p bits p (typed (next_label c.args.parts.kind c.args.labels.now one.label) p bits p.tags (c.in_ok-label.ensures.exact p.tags))
+          c.in_ok-body.body c.single.new.progress
+          (ap (λ u. sequence_behind [] (statement result names u p)) (sym c.get.ensures)
+          ∙ in_empty (λ l. sequence_behind l (statement result names got p)) c.new-none.result _ c.new-none.ensures
+          (c.in_ok-body.ensures.exact more (are ∙ ap (λ u. statement_flags u ++ more) (sym c.get.ensures))));
+      flags = λ more are. c.in_ok-body.ensures.flags more (are ∙ ap (λ u. statement_flags u ++ more) (sym c.get.ensures));
+      names = c.in_ok-body.ensures.names;
+      labels = c.in_ok-label.ensures.added;
     }

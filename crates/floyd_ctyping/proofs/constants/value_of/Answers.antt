@@ -1,8 +1,8 @@
 use Rattle.std.proofs.Common.{sym, ◌∙◌, arith}
 use Rattle.std.proofs.lemmas.Int.{ints}
 use Rattle.floyd_int.proofs.KindLaws.{pow-width_le}
-use Rattle.floyd_elab_data.proofs.ConstantLemmas.{value_negative, value_other}
-use Rattle.floyd_elab_data.proofs.constants.value_of.Goals as goal
+use Rattle.floyd_ctyping.proofs.ConstantLemmas.{value_negative, value_other}
+use Rattle.floyd_ctyping.proofs.constants.value_of.Goals as goal
 
 pub returns-then-is_negative : goal.returns-then-is_negative
 returns-then-is_negative c =

@@ -3,7 +3,7 @@ use Rattle.std.proofs.lemmas.Result.{err_from_is_err_and}
 use Rattle.floyd_text.specs.Gives.{Gives}
 use Rattle.floyd_elab_expressions.specs.Behind.{behind}
 use Rattle.floyd_elab_effects.proofs.CallLemmas.{call_goes, call_stops}
-use Rattle.floyd_elab_effects.proofs.calls.calling.Goals as goal
+use Rattle.floyd_elab_effects.proofs.calls.parts_of_call.Goals as goal
 
 pub returns-in_err-f : goal.returns-in_err-f
 returns-in_err-f c =
