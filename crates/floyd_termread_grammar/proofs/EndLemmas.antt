@@ -11,16 +11,19 @@ use Rattle.floyd_cparse_tokens.specs.Tokens.{is_there}
 use Rattle.floyd_cparse_tokens.proofs.Shrinks.{Eats, bind_cases}
 use Rattle.floyd_cparse_tokens.proofs.TokenLemmas.{or_fails, and-false_right}
 use Rattle.floyd_cparse_trees.specs.declared.types.Identifier.{Identifier}
+use Rattle.floyd_termread_trees.specs.declared.words.Word.{Word}
 use Rattle.floyd_termread_trees.specs.declared.written.Infix.{Infix}
 use Rattle.floyd_termread_trees.specs.declared.written.Infix.TheVariants as i
 use Rattle.floyd_termread_trees.specs.declared.written.Opening.TheVariants as opening
-use Rattle.floyd_termread_tokens.specs.Tokens.{is_mark, blame, without_room}
+use Rattle.floyd_termread_tokens.specs.Tokens.{is_mark, is_cut, blame, without_room}
 use Rattle.floyd_termread_grammar.specs.declared.values.Atom.{Atom}
 use Rattle.floyd_termread_grammar.specs.declared.values.Chain.{Chain}
+use Rattle.floyd_termread_tables.specs.declared.values.Class.{Class}
 use Rattle.floyd_termread_tables.specs.declared.values.Class.TheVariants as class
 use Rattle.floyd_termread_grammar.specs.declared.values.Contents.{Contents}
 use Rattle.floyd_termread_tables.specs.declared.values.End.{End}
 use Rattle.floyd_termread_grammar.specs.declared.values.Filled.{Filled}
+use Rattle.floyd_termread_tables.specs.declared.values.Form.{Form}
 use Rattle.floyd_termread_tables.specs.declared.values.Form.TheVariants as form
 use Rattle.floyd_termread_tables.specs.declared.values.Kind.TheVariants as kind
 use Rattle.floyd_termread_tables.specs.declared.values.LinkStart.{LinkStart}
@@ -70,6 +73,10 @@ Uncalled bare rest = (bare && leads (is_mark p.OpenParen) rest) ≡ false
 lone : (x y : Atom) (s rest : List Token) → x.bare ≡ false → parse.pure {T = Token} x s ≡ Ok (y, rest) → Uncalled y.bare rest
 lone x y s rest b e = ap (λ (z : Bool). z && leads (is_mark p.OpenParen) rest) (ap (λ (z : Atom). z.bare) (sym (same_value x y s rest e)) ∙ b)
 
+struct_lone : (place : Place) (count : ℕ) (tag : Option Identifier) → (g.struct_atom place count tag).bare ≡ false
+struct_lone place count None = refl
+struct_lone place count (Some tag) = refl
+
 never_read : {A : Type 0} (f : Token → ℕ) (ts : List Token) (y : A) (rest : List Token) → parse.one {A = A} (λ t. Err (f t)) ts ≡ Ok (y, rest) → ⊥
 never_read f [] y rest e = cc
 never_read f (t ∷ ts) y rest e = cc
@@ -90,6 +97,13 @@ module _ (room : ℕ) where
       go false h e =
           ap (λ (z : Bool). y.bare && z) (ap (leads (is_mark p.OpenParen)) (sym (same_rest (g.name_atom name count) y ts rest e)) ∙ h) ∙ and-false_right y.bare
 
+  open_end : (word : Word) (of : Form) (is : Class) (place : Place) (count : ℕ) (opened : Option Place) (ts : List Token) (y : Atom) (rest : List Token) → r.after_open room ri word of is place count opened ts ≡ Ok (y, rest) → Uncalled y.bare rest
+  unfolding r.after_open
+  open_end word of is place count None ts y rest e = lone (g.missing_atom count) y ts rest refl e
+  open_end word of is place count (Some opened) ts y rest e =
+      let d = bind_cases (r.bracket room ri of (g.count_in is count) ts) (λ (all : Filled). parse.pure (g.bracket_atom (opening.Word word place) is opened all)) y rest e in
+      lone (g.bracket_atom (opening.Word word place) is opened d.0) y d.1 rest refl d.3
+
   start_end : (count : ℕ) (x : Start) (ts : List Token) (y : Atom) (rest : List Token) → r.after_start room ri count x ts ≡ Ok (y, rest) → Uncalled y.bare rest
   unfolding r.after_start r.form_of
   start_end count (start.Alone tree of) ts y rest e = lone (g.atom tree of count) y ts rest refl e
@@ -98,15 +112,14 @@ module _ (room : ℕ) where
       let d = bind_cases (r.bracket room ri of count ts) (λ (all : Filled). parse.pure (g.bracket_atom opens is place all)) y rest e in
       lone (g.bracket_atom opens is place d.0) y d.1 rest refl d.3
   start_end count (start.Word word of is place) ts y rest e =
-      let d = bind_cases (parse.one (g.open_token room count) ts) (λ at. parse.◌>>=◌ (r.bracket room ri of (g.count_in is count)) (λ (all : Filled). parse.pure (g.bracket_atom (opening.Word word place) is at all))) y rest e in
-      let d' = bind_cases (r.bracket room ri of (g.count_in is count) d.1) (λ (all : Filled). parse.pure (g.bracket_atom (opening.Word word place) is d.0 all)) y rest d.3 in
-      lone (g.bracket_atom (opening.Word word place) is d.0 d'.0) y d'.1 rest refl d'.3
+      let d = bind_cases (parse.one (g.open_token room count) ts) (r.after_open room ri word of is place count) y rest e in
+      open_end word of is place count d.0 d.1 y rest d.3
   start_end count (start.Path place) ts y rest e =
       let d = bind_cases (ri (want.Steps place) count ts) (λ x. parse.pure (g.path_atom x)) y rest e in
       lone (g.path_atom d.0) y d.1 rest refl d.3
   start_end count (start.Struct place) ts y rest e =
       let d = bind_cases (parse.one (g.tag_token room count) ts) (λ tag. parse.pure (g.struct_atom place count tag)) y rest e in
-      lone (g.struct_atom place count d.0) y d.1 rest refl d.3
+      lone (g.struct_atom place count d.0) y d.1 rest (struct_lone place count d.0) d.3
 
   operand_end : (wanted : Want) (count : ℕ) (ts : List Token) (y : Operand) (rest : List Token) → r.operand room ri wanted count ts ≡ Ok (y, rest) → Uncalled y.end.bare rest
   unfolding r.operand r.one_atom
@@ -137,19 +150,6 @@ module _ (room : ℕ) where
   ends_here end x [] same a b = tt
   ends_here end x (t ∷ ts) same a b = subst (λ (z : End). goes_on z t ≡ false) (sym same) (or_fails (end.bare && is_mark p.OpenParen t) (is_there (infix_for end.kind t)) a b)
 
-  chain_end : (wanted : Want) (count : ℕ) (ts : List Token) (y : Operand) (rest : List Token) → r.chain room ri wanted count ts ≡ Ok (y, rest) → Ends y rest
-  unfolding r.chain r.finish_chain
-  chain_end wanted count ts y rest e =
-      let d = bind_cases (r.links room ri wanted count ts) (r.finish_chain room ri) y rest e in
-      go d.0 d.1 (links_end wanted count ts d.0 d.1 d.2) (must_relate d.0.end.kind) d.3
-    where
-      go : (all : Chain) (s : List Token) → (Uncalled all.end.bare s × (leads (begins_link all) s ≡ false)) → (b : Bool) → (r.chain_read room all b) s ≡ Ok (y, rest) → Ends y rest
-      go all s q true e = absurd (never_read (λ t. if goes_on all.end t then 0 else blame room all.end.count t) s y rest e)
-      go all s q false e =
-          ends_here all.end y rest (ap (λ (z : Operand). z.end) (sym (same_value (g.chain_operand all) y s rest e)))
-          (subst (λ (z : List Token). Uncalled all.end.bare z) (same_rest (g.chain_operand all) y s rest e) q.0)
-          (subst (λ (z : List Token). leads (begins_link all) z ≡ false) (same_rest (g.chain_operand all) y s rest e) q.1)
-
   no_operator : (o : Option Infix) → is_there (allowed kind.Other o) ≡ false
   no_operator None = refl
   no_operator (Some i.Cons) = refl
@@ -170,6 +170,31 @@ module _ (room : ℕ) where
   none_leads : (rest : List Token) → leads (λ t. is_there (infix_for kind.Other t)) rest ≡ false
   none_leads [] = refl
   none_leads (t ∷ ts) = no_operator (infix_of t)
+
+  -- a side whose relation is missing
+  side_ends : (all : Chain) (ts : List Token) (y : Operand) (rest : List Token) → parse.one (g.side_end room all) ts ≡ Ok (y, rest) → Ends y rest
+  side_ends all [] y rest e = absurd cc
+  side_ends all (t ∷ ts) y rest e = go (is_cut t) e
+    where
+      cut_ends : (x : Operand) → x ≡ y → x.end ≡ g.other_end all.end.count → Ends y rest
+      cut_ends x same at_end = ends_here (g.other_end all.end.count) y rest (ap (λ (z : Operand). z.end) (sym same) ∙ at_end) refl (none_leads rest)
+
+      go : (b : Bool) → taken ts (if b then Ok (g.cut_side all) else Err (if goes_on all.end t then 0 else blame room all.end.count t)) ≡ Ok (y, rest) → Ends y rest
+      go true h = cut_ends (g.cut_side all) (same_value (g.cut_side all) y ts rest h) refl
+      go false h = absurd cc
+
+  chain_end : (wanted : Want) (count : ℕ) (ts : List Token) (y : Operand) (rest : List Token) → r.chain room ri wanted count ts ≡ Ok (y, rest) → Ends y rest
+  unfolding r.chain r.finish_chain
+  chain_end wanted count ts y rest e =
+      let d = bind_cases (r.links room ri wanted count ts) (r.finish_chain room ri) y rest e in
+      go d.0 d.1 (links_end wanted count ts d.0 d.1 d.2) (must_relate d.0.end.kind) d.3
+    where
+      go : (all : Chain) (s : List Token) → (Uncalled all.end.bare s × (leads (begins_link all) s ≡ false)) → (b : Bool) → (r.chain_read room all b) s ≡ Ok (y, rest) → Ends y rest
+      go all s q true e = side_ends all s y rest e
+      go all s q false e =
+          ends_here all.end y rest (ap (λ (z : Operand). z.end) (sym (same_value (g.chain_operand all) y s rest e)))
+          (subst (λ (z : List Token). Uncalled all.end.bare z) (same_rest (g.chain_operand all) y s rest e) q.0)
+          (subst (λ (z : List Token). leads (begins_link all) z ≡ false) (same_rest (g.chain_operand all) y s rest e) q.1)
 
   steps_end : (place : Place) (count : ℕ) (ts : List Token) (y : Operand) (rest : List Token) → r.steps room ri place count ts ≡ Ok (y, rest) → Ends y rest
   unfolding r.steps

@@ -20,8 +20,9 @@ use Rattle.floyd_termread_trees.specs.declared.words.Word.{Word}
 use Rattle.floyd_termread_trees.specs.declared.written.Opening.TheVariants as opening
 use Rattle.floyd_termread_trees.specs.declared.written.Prefix.{Prefix}
 use Rattle.floyd_termread_trees.specs.declared.written.Prefix.TheVariants as prefix
-use Rattle.floyd_termread_tokens.specs.Tokens.{is_mark, place_if, without_room}
-use Rattle.floyd_termread_tokens.proofs.TakeLemmas.{there_place, offered_meant}
+use Rattle.std.specs.Prelude.{Ok, Option, Some, None, if◌then◌else◌}
+use Rattle.floyd_termread_tokens.specs.Tokens.{is_mark, is_cut, place_if, blame, without_room}
+use Rattle.floyd_termread_tokens.proofs.TakeLemmas.{there_place, offered_meant, cut_taken}
 use Rattle.floyd_termread_sorts.proofs.SortExact.{quantified_exact}
 use Rattle.floyd_termread_grammar.specs.declared.values.Atom.{Atom}
 use Rattle.floyd_termread_grammar.specs.declared.values.Chain.{Chain}
@@ -50,7 +51,7 @@ use Rattle.floyd_termread_tables.specs.Operators.{goes_on}
 use Rattle.floyd_termread_grammar.specs.Terms.{more_items}
 use Rattle.floyd_termread_grammar.specs.TermClauses as r
 use Rattle.floyd_termread_grammar.specs.TermClauses.{begins_link}
-use Rattle.floyd_termread_grammar.proofs.TokenSets.{opens, begins, more_operand, more_chain, more_nested, blamed_unless, link_stops, link_meant, separator_meant, more_items_stop, bracket_end_meant, empty_apart, prefix_meant, operand_meant, operand_taken, step_meant, steps_end_meant}
+use Rattle.floyd_termread_grammar.proofs.TokenSets.{opens, begins, cut_stops, more_operand, more_chain, more_nested, blamed_unless, link_stops, link_meant, separator_meant, more_items_stop, bracket_end_meant, empty_apart, prefix_meant, operand_meant, operand_taken, step_meant, steps_end_meant}
 
 -- what is taken or blamed is meant
 meant_taken : {A : Type 0} (o : Result A ℕ) → is_taken o ≡ true → is_meant o ≡ true
@@ -122,7 +123,7 @@ module _ (room : ℕ) (ri : Want → ℕ → Parser Token Operand) (gi : Want �
 
   empty_exact : (of : Form) (count : ℕ) → Exact (r.no_contents room ri of count) (g.no_contents room gi of count) (λ t. is_taken (g.empty_end of t)) (λ t. is_blamed (g.empty_end of t)) (λ x t. false)
   unfolding r.no_contents
-  empty_exact of count = token_then (g.empty_end of) (λ close. nothing (g.filled (g.no_items count) close) (λ x t. false))
+  empty_exact of count = token_then (g.empty_end of) (λ close. nothing (g.filled (g.no_items count) (Some close)) (λ x t. false))
 
   empty_meant : (of : Form) (t : Token) → is_meant (g.empty_end of t) ≡ true → g.is_empty_end of t ≡ true
   empty_meant of t e = there_place (g.is_empty_end of t) t (closing_meant (place_if (g.is_empty_end of t) t) e)
@@ -132,7 +133,7 @@ module _ (room : ℕ) (ri : Want → ℕ → Parser Token Operand) (gi : Want �
   bracket_exact of count =
       loose
       (either_sure (g.is_empty_end of) (empty_exact of count) (some_exact of count)
-      (λ x d. seq_solid (phrase.one (g.empty_end of)) (λ close. phrase.pure (g.filled (g.no_items count) close)) (token_solid (g.empty_end of)) x d)
+      (λ x d. seq_solid (phrase.one (g.empty_end of)) (λ close. phrase.pure (g.filled (g.no_items count) (Some close))) (token_solid (g.empty_end of)) x d)
       (λ t e. empty_meant of t (meant_taken (g.empty_end of t) e)) (λ t e. empty_meant of t (meant_blamed (g.empty_end of t) e))
       (λ t e. inl (inr (t, t.place, refl, rw e refl)))
       (λ t e. empty_apart of t e)
@@ -158,11 +159,15 @@ module _ (room : ℕ) (ri : Want → ℕ → Parser Token Operand) (gi : Want �
       (λ t e. absurd (true≢false (sym e))) (λ t e. absurd (true≢false (sym e)))
       (λ x d t e. subst (λ (z : Atom). more_atom z t ≡ false) d.1 e))
 
+  after_open_exact : (word : Word) (of : Form) (is : Class) (place : Place) (count : ℕ) (opened : Option Place) → Exact (r.after_open room ri word of is place count opened) (g.after_open room gi word of is place count opened) (λ t. true) (λ t. true) more_atom
+  unfolding r.after_open
+  after_open_exact word of is place count None = loose (nothing (g.missing_atom count) more_atom)
+  after_open_exact word of is place count (Some opened) = made (λ (all : Filled). g.bracket_atom (opening.Word word place) is opened all) more_atom (bracket_exact of (g.count_in is count)) (λ u x d t e. refl)
+
   form_exact : (word : Word) (of : Form) (is : Class) (place : Place) (count : ℕ) → Exact (r.form_of room ri word of is place count) (g.form_of room gi word of is place count) (λ t. is_taken (g.open_token room count t)) (λ t. is_blamed (g.open_token room count t)) more_atom
   unfolding r.form_of
   form_exact word of is place count =
-      token_then (g.open_token room count)
-      (λ opens. made (λ (all : Filled). g.bracket_atom (opening.Word word place) is opens all) more_atom (bracket_exact of (g.count_in is count)) (λ u x d t e. refl))
+      token_then (g.open_token room count) (after_open_exact word of is place count)
 
   start_exact : (count : ℕ) (x : Start) → Exact (r.after_start room ri count x) (g.after_start room gi count x) (λ t. true) (λ t. true) more_atom
   unfolding r.after_start
@@ -218,8 +223,8 @@ module _ (room : ℕ) (ri : Want → ℕ → Parser Token Operand) (gi : Want �
       (λ u all d t e. operand_meant room all t (meant_blamed (g.operand_token room all t) e))
       (λ u all y d d' t e. absurd (seq_solid (g.one_atom room gi all) (λ x. phrase.pure (g.with_prefixes all x)) (atom_solid all) y d'))
       (opens wanted) (λ t. true)
-      (λ t e. or_left (is_there (prefix_of wanted false t)) (is_there (start_of wanted false t)) e) (λ t e. refl)
-      (λ all d t e. or_right (is_there (prefix_of wanted false t)) (is_there (start_of wanted false t)) (operand_taken room (g.no_prefixes wanted count) t (subst (λ (z : Prefixes). is_taken (g.operand_token room z t) ≡ true) (prefixes_nil wanted count all d) e)))
+      (λ t e. or_left (is_there (prefix_of wanted false t)) (is_there (start_of wanted false t) || is_cut t) e) (λ t e. refl)
+      (λ all d t e. or_right (is_there (prefix_of wanted false t)) (is_there (start_of wanted false t) || is_cut t) (operand_taken room (g.no_prefixes wanted count) t (subst (λ (z : Prefixes). is_taken (g.operand_token room z t) ≡ true) (prefixes_nil wanted count all d) e)))
       (λ all d t e. refl)
 
   pub operand_solid : (wanted : Want) (count : ℕ) (x : Operand) → (g.operand room gi wanted count).reads [] x → ⊥
@@ -266,13 +271,24 @@ module _ (room : ℕ) (ri : Want → ℕ → Parser Token Operand) (gi : Want �
   links_solid : (wanted : Want) (count : ℕ) (x : Chain) → (g.links room gi wanted count).reads [] x → ⊥
   links_solid wanted count x d = seq_solid (g.operand room gi wanted count) (λ first. phrase.folded g.plus_link (g.one_link room gi) (g.first_link first)) (operand_solid wanted count) x d
 
-  finish_exact : (all : Chain) → Exact (r.finish_chain room ri all) (g.finish_chain room gi all) (λ t. false) (λ t. is_blamed (g.side_end room all t)) more_chain
+  side_taken : (all : Chain) (t : Token) → is_taken (g.side_end room all t) ≡ true → is_cut t ≡ true
+  side_taken all t e =
+      cut_taken t (g.cut_side all) (Err (if goes_on all.end t then 0 else blame room all.end.count t)) e (λ h. h) (λ h. absurd (true≢false (sym h)))
+
+  side_blamed : (all : Chain) (t : Token) → is_blamed (g.side_end room all t) ≡ true → goes_on all.end t ≡ false
+  side_blamed all t e = go (is_cut t) e
+    where
+      go : (b : Bool) → is_blamed (if b then Ok (g.cut_side all) else Err (if goes_on all.end t then 0 else blame room all.end.count t)) ≡ true → goes_on all.end t ≡ false
+      go true h = absurd (true≢false (sym h))
+      go false h = blamed_unless Operand (goes_on all.end t) _ h
+
+  finish_exact : (all : Chain) → Exact (r.finish_chain room ri all) (g.finish_chain room gi all) is_cut (λ t. is_blamed (g.side_end room all t)) more_chain
   unfolding r.finish_chain
   finish_exact all = go (must_relate all.end.kind)
     where
-      go : (b : Bool) → Exact (r.chain_read room all b) (g.whole_chain room all b) (λ t. false) (λ t. is_blamed (g.side_end room all t)) more_chain
-      go true = wider (token (g.side_end room all)) (λ t. false) (λ t. is_blamed (g.side_end room all t)) more_chain (λ t e. e) (λ t e. e) (λ x t e. absurd (true≢false (sym e)))
-      go false = wider (nothing (g.chain_operand all) more_chain) (λ t. false) (λ t. is_blamed (g.side_end room all t)) more_chain (λ t e. e) (λ t e. absurd (true≢false (sym e))) (λ x t e. e)
+      go : (b : Bool) → Exact (r.chain_read room all b) (g.whole_chain room all b) is_cut (λ t. is_blamed (g.side_end room all t)) more_chain
+      go true = wider (token (g.side_end room all)) is_cut (λ t. is_blamed (g.side_end room all t)) more_chain (λ t e. side_taken all t e) (λ t e. e) (λ x t e. absurd (true≢false (sym e)))
+      go false = wider (nothing (g.chain_operand all) more_chain) is_cut (λ t. is_blamed (g.side_end room all t)) more_chain (λ t e. absurd (true≢false (sym e))) (λ t e. absurd (true≢false (sym e))) (λ x t e. e)
 
   finish_end : (all : Chain) (y : Operand) → (g.finish_chain room gi all).reads [] y → y ≡ g.chain_operand all
   finish_end all y d = go (must_relate all.end.kind) d
@@ -285,8 +301,8 @@ module _ (room : ℕ) (ri : Want → ℕ → Parser Token Operand) (gi : Want �
   unfolding r.chain
   chain_exact wanted count =
       seq (links_exact wanted count) finish_exact (links_solid wanted count)
-      (λ u x d t e. absurd (true≢false (sym e)))
-      (λ u x d t e. blamed_unless Operand (goes_on x.end t) _ e)
+      (λ u x d t e. cut_stops x.end t e)
+      (λ u x d t e. side_blamed x t e)
       (λ u x y d d' t e. subst (λ (z : Operand). goes_on z.end t ≡ false) (finish_end x y d') e)
 
   pub chain_solid : (wanted : Want) (count : ℕ) (x : Operand) → (g.chain room gi wanted count).reads [] x → ⊥

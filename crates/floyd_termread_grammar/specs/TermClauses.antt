@@ -1,5 +1,5 @@
 -- Readers of terms, formulas, types and paths, of the shape of their grammar. They decide by the next token.
-use Rattle.std.specs.Prelude.{ℕ, zero, suc, ◌+◌, pred, Bool, true, false, Err}
+use Rattle.std.specs.Prelude.{ℕ, zero, suc, ◌+◌, pred, Bool, true, false, Err, Option, Some, None}
 use Rattle.floyd_text.specs.declared.place.Place.{Place}
 use Rattle.floyd_lex.specs.declared.kinds.Punctuator.TheVariants as p
 use Rattle.floyd_lex.specs.Token.{Token}
@@ -33,7 +33,7 @@ use Rattle.floyd_termread_tables.specs.declared.values.Want.{Want}
 use Rattle.floyd_termread_tables.specs.declared.values.Want.TheVariants as want
 use Rattle.floyd_termread_tables.specs.Operators.{infix_for, want_behind, must_relate}
 use Rattle.floyd_termread_tables.specs.Brackets.{first_want}
-use Rattle.floyd_termread_grammar.specs.Terms.{begins_prefix, prefix_token, operand_token, no_prefixes, plus_prefix, with_prefixes, first_link, plus_link, link_token, chain_operand, side_end, no_items, plus_item, first_item, more_items, separator_token, want_of_next, bracket_end, is_empty_end, empty_end, filled, bracket_atom, atom, name_atom, struct_atom, path_atom, call_token, open_token, tag_token, count_in, step_at, step_token, field_operand, bracket_operand, steps_end}
+use Rattle.floyd_termread_grammar.specs.Terms.{begins_prefix, prefix_token, operand_token, no_prefixes, plus_prefix, with_prefixes, first_link, plus_link, link_token, chain_operand, side_end, no_items, plus_item, first_item, more_items, separator_token, want_of_next, bracket_end, is_empty_end, empty_end, filled, bracket_atom, atom, name_atom, missing_atom, struct_atom, path_atom, call_token, open_token, tag_token, count_in, step_at, step_token, field_operand, bracket_operand, steps_end}
 
 -- an operator goes on with the chain
 abbrev pub begins_link : Chain → Token → Bool
@@ -60,7 +60,7 @@ module _ (room : ℕ) (inner : Want → ℕ → Parser Token Operand) where
     pure (filled all close)
 
   unfoldable pub no_contents : Form → ℕ → Parser Token Filled
-  no_contents of count = one (empty_end of) >>= λ close. pure (filled (no_items count) close)
+  no_contents of count = one (empty_end of) >>= λ close. pure (filled (no_items count) (Some close))
 
   -- [ reading { "," reading } ] ")"
   unfoldable pub bracket : Form → ℕ → Parser Token Filled
@@ -74,11 +74,12 @@ module _ (room : ℕ) (inner : Want → ℕ → Parser Token Operand) where
     pure (bracket_atom (opening.Call name) class.Term opened all)
 
   -- "(" .. ")" behind a word
+  unfoldable pub after_open : Word → Form → Class → Place → ℕ → Option Place → Parser Token Atom
+  after_open word of is place count None = pure (missing_atom count)
+  after_open word of is place count (Some opened) = bracket of (count_in is count) >>= λ all. pure (bracket_atom (opening.Word word place) is opened all)
+
   unfoldable pub form_of : Word → Form → Class → Place → ℕ → Parser Token Atom
-  form_of word of is place count = do
-    opened ← one (open_token room count)
-    all ← bracket of (count_in is count)
-    pure (bracket_atom (opening.Word word place) is opened all)
+  form_of word of is place count = one (open_token room count) >>= after_open word of is place count
 
   unfoldable pub name_or_call : Identifier → ℕ → Parser Token Atom
   name_or_call name count = either (is_mark p.OpenParen) (call name count) (pure (name_atom name count))

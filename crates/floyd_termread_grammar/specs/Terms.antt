@@ -7,6 +7,10 @@
 --   atom     = a number, name or word alone | name [ bracket ] | word bracket | bracket | "[" steps | "struct" name
 --   bracket  = "(" [ reading { "," reading } ] ")", with "[" and "]" for a list, and ";" between types
 --   steps    = { "." name | "[" term "]" } "]"
+--
+-- Where a text is cut off, its end stands for what is missing: an operand, with the operators before it; the bracket behind a
+-- word, with the word; a name, with what stands before it; a relation behind a term that must be its side; and the end of
+-- each bracket that stays open. A text that is not cut off has no such end.
 use Rattle.std.specs.Prelude.{ℕ, zero, suc, ◌+◌, pred, Bool, true, false, ◌&&◌, ◌||◌, if◌then◌else◌, Option, Some, None, Result, Err, List, [], ◌∷◌, ◌++◌, length}
 use Rattle.floyd_text.specs.declared.place.Place.{Place}
 use Rattle.floyd_lex.specs.declared.kinds.Punctuator.TheVariants as p
@@ -22,7 +26,7 @@ use Rattle.floyd_termread_trees.specs.declared.written.Prefix.{Prefix}
 use Rattle.floyd_termread_trees.specs.declared.written.Prefix.TheVariants as prefix
 use Rattle.floyd_termread_trees.specs.declared.written.Written.{Written}
 use Rattle.floyd_termread_trees.specs.declared.written.Written.TheVariants as written
-use Rattle.floyd_termread_tokens.specs.Tokens.{unexpected, is_mark, place_if, given_name, blame, without_room, offer, demand}
+use Rattle.floyd_termread_tokens.specs.Tokens.{unexpected, is_mark, place_if, given_name, blame, without_room, offer, demand, unless_cut}
 use Rattle.floyd_termread_sorts.specs.Sorts.{quantified}
 use Rattle.floyd_termread_grammar.specs.declared.values.Atom.{Atom}
 use Rattle.floyd_termread_grammar.specs.declared.values.Chain.{Chain}
@@ -70,11 +74,16 @@ prefix_token room all t = offer room (all.count + all.run) t (prefix_of all.want
 
 -- What is an operator before an operand is taken, or refused, there.
 abbrev pub operand_token : ℕ → Prefixes → Token → Result Start ℕ
-operand_token room all t = if begins_prefix all t then Err unexpected else demand room (all.count + all.run) t (start_of all.want all.minus t)
+operand_token room all t = if begins_prefix all t then Err unexpected else unless_cut t (start.Alone written.Missing class.Other) (demand room (all.count + all.run) t (start_of all.want all.minus t))
 
+abbrev pub is_missing : Written → Bool
+is_missing written.Missing = true
+is_missing rest = false
+
+-- nothing stands before what is missing
 abbrev pub prefixed : List Prefix → Written → Written
 prefixed [] tree = tree
-prefixed (first ∷ more) tree = written.Prefixed (first ∷ more) tree
+prefixed (first ∷ more) tree = if is_missing tree then tree else written.Prefixed (first ∷ more) tree
 
 abbrev pub with_prefixes : Prefixes → Atom → Operand
 with_prefixes all x = record { tree = prefixed all.items x.tree; end = record { kind = kind_of all.want x.class; bare = x.bare; count = x.count } }
@@ -100,9 +109,12 @@ linked tree (first ∷ more) = written.Chain tree (first ∷ more)
 abbrev pub chain_operand : Chain → Operand
 chain_operand chain = record { tree = linked chain.first chain.links; end = chain.end }
 
--- a side of a relation without the relation
+-- a side of a relation without the relation: nothing goes on with it where the text is cut off
+abbrev pub cut_side : Chain → Operand
+cut_side chain = record { tree = linked chain.first chain.links; end = other_end chain.end.count }
+
 abbrev pub side_end : ℕ → Chain → Token → Result Operand ℕ
-side_end room chain t = Err (if goes_on chain.end t then unexpected else blame room chain.end.count t)
+side_end room chain t = unless_cut t (cut_side chain) (Err (if goes_on chain.end t then unexpected else blame room chain.end.count t))
 
 -- What stands in a bracket.
 abbrev pub no_items : ℕ → Contents
@@ -127,12 +139,17 @@ wanted (Some x) = x
 abbrev pub want_of_next : Form → Contents → Want
 want_of_next of all = wanted (next_want of (length all.items) all.end.kind)
 
-abbrev pub closing_place : Form → Contents → Token → Option Place
-closing_place of all t = place_if (is_enough of (length all.items) && is_mark (closing_mark of) t) t
+-- the place of a token that is there
+abbrev pub known_place : Option Place → Option (Option Place)
+known_place None = None
+known_place (Some place) = Some (Some place)
+
+abbrev pub closing_place : Form → Contents → Token → Option (Option Place)
+closing_place of all t = known_place (place_if (is_enough of (length all.items) && is_mark (closing_mark of) t) t)
 
 -- what goes on is refused, if at all, there
-abbrev pub bracket_end : ℕ → Form → Contents → Token → Result Place ℕ
-bracket_end room of all t = found_or (if more_items of all t || goes_on all.end t then unexpected else blame room all.end.count t) (closing_place of all t)
+abbrev pub bracket_end : ℕ → Form → Contents → Token → Result (Option Place) ℕ
+bracket_end room of all t = unless_cut t None (found_or (if more_items of all t || goes_on all.end t then unexpected else blame room all.end.count t) (closing_place of all t))
 
 abbrev pub is_empty_end : Form → Token → Bool
 is_empty_end of t = may_be_empty of && is_mark (closing_mark of) t
@@ -140,7 +157,7 @@ is_empty_end of t = may_be_empty of && is_mark (closing_mark of) t
 abbrev pub empty_end : Form → Token → Result Place ℕ
 empty_end of t = found_or unexpected (place_if (is_empty_end of t) t)
 
-abbrev pub filled : Contents → Place → Filled
+abbrev pub filled : Contents → Option Place → Filled
 filled all close = record { items = all.items; end = all.end; close = close }
 
 abbrev pub class_in : Class → Filled → Class
@@ -156,8 +173,12 @@ atom tree of count = record { tree = tree; class = of; bare = false; count = cou
 abbrev pub name_atom : Identifier → ℕ → Atom
 name_atom name count = record { tree = written.Name name; class = class.Term; bare = true; count = count }
 
-abbrev pub struct_atom : Place → ℕ → Identifier → Atom
-struct_atom place count tag = atom (written.Struct place tag) class.Other count
+abbrev pub missing_atom : ℕ → Atom
+missing_atom count = atom written.Missing class.Other count
+
+abbrev pub struct_atom : Place → ℕ → Option Identifier → Atom
+struct_atom place count None = missing_atom count
+struct_atom place count (Some tag) = atom (written.Struct place tag) class.Other count
 
 abbrev pub path_atom : Operand → Atom
 path_atom x = atom x.tree class.Other x.end.count
@@ -165,11 +186,15 @@ path_atom x = atom x.tree class.Other x.end.count
 abbrev pub call_token : ℕ → ℕ → Token → Result Place ℕ
 call_token room count t = offer room count t (place_if (is_mark p.OpenParen t) t)
 
-abbrev pub open_token : ℕ → ℕ → Token → Result Place ℕ
-open_token room count t = demand room count t (place_if (is_mark p.OpenParen t) t)
+abbrev pub open_token : ℕ → ℕ → Token → Result (Option Place) ℕ
+open_token room count t = unless_cut t None (demand room count t (known_place (place_if (is_mark p.OpenParen t) t)))
 
-abbrev pub tag_token : ℕ → ℕ → Token → Result Identifier ℕ
-tag_token room count t = demand room count t (given_name t)
+abbrev pub known_name : Option Identifier → Option (Option Identifier)
+known_name None = None
+known_name (Some name) = Some (Some name)
+
+abbrev pub tag_token : ℕ → ℕ → Token → Result (Option Identifier) ℕ
+tag_token room count t = unless_cut t None (demand room count t (known_name (given_name t)))
 
 -- the bracket behind a term's name or word counts as an operator
 abbrev pub count_in : Class → ℕ → ℕ
@@ -183,14 +208,18 @@ step_at t = if is_mark p.Dot t then Some (step_start.Dot t.place) else if is_mar
 abbrev pub step_token : ℕ → Contents → Token → Result StepStart ℕ
 step_token room all t = offer room all.end.count t (step_at t)
 
-abbrev pub field_operand : Place → ℕ → Identifier → Operand
-field_operand place count name = record { tree = written.Field place name; end = other_end count }
+abbrev pub field_tree : Place → Option Identifier → Written
+field_tree place None = written.Missing
+field_tree place (Some name) = written.Field place name
+
+abbrev pub field_operand : Place → ℕ → Option Identifier → Operand
+field_operand place count name = record { tree = field_tree place name; end = other_end count }
 
 abbrev pub bracket_operand : Opening → Place → Filled → Operand
 bracket_operand opens place all = record { tree = written.Bracket opens place all.items all.close; end = other_end all.end.count }
 
-abbrev pub steps_end : ℕ → Contents → Token → Result Place ℕ
-steps_end room all t = found_or (if is_there (step_at t) then unexpected else blame room all.end.count t) (place_if (is_mark p.CloseBracket t) t)
+abbrev pub steps_end : ℕ → Contents → Token → Result (Option Place) ℕ
+steps_end room all t = unless_cut t None (found_or (if is_there (step_at t) then unexpected else blame room all.end.count t) (known_place (place_if (is_mark p.CloseBracket t) t)))
 
 -- a chain, if it is whole
 abbrev pub whole_chain : ℕ → Chain → Bool → Phrase Token Operand
@@ -210,7 +239,7 @@ module _ (room : ℕ) (inner : Want → ℕ → Phrase Token Operand) where
     pure (filled all close)
 
   abbrev pub no_contents : Form → ℕ → Phrase Token Filled
-  no_contents of count = one (empty_end of) >>= λ close. pure (filled (no_items count) close)
+  no_contents of count = one (empty_end of) >>= λ close. pure (filled (no_items count) (Some close))
 
   -- [ reading { "," reading } ] ")"
   abbrev pub bracket : Form → ℕ → Phrase Token Filled
@@ -224,11 +253,12 @@ module _ (room : ℕ) (inner : Want → ℕ → Phrase Token Operand) where
     pure (bracket_atom (opening.Call name) class.Term opened all)
 
   -- "(" .. ")" behind a word
+  abbrev pub after_open : Word → Form → Class → Place → ℕ → Option Place → Phrase Token Atom
+  after_open word of is place count None = pure (missing_atom count)
+  after_open word of is place count (Some opened) = bracket of (count_in is count) >>= λ all. pure (bracket_atom (opening.Word word place) is opened all)
+
   abbrev pub form_of : Word → Form → Class → Place → ℕ → Phrase Token Atom
-  form_of word of is place count = do
-    opened ← one (open_token room count)
-    all ← bracket of (count_in is count)
-    pure (bracket_atom (opening.Word word place) is opened all)
+  form_of word of is place count = one (open_token room count) >>= after_open word of is place count
 
   abbrev pub after_start : ℕ → Start → Phrase Token Atom
   after_start count (start.Alone tree of) = pure (atom tree of count)

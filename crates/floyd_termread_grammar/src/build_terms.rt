@@ -57,10 +57,16 @@ pub(crate) fn plus_prefix(all: Prefixes, prefix: Prefix) -> Result<Prefixes, All
     Ok(all)
 }
 
+fn is_missing(tree: &Written) -> bool
+    ensures { result ≡ t.is_missing tree.now }
+{
+    matches!(tree, Written::Missing)
+}
+
 fn prefixed(alloc: Global, prefixes: Items<Prefix>, tree: Written) -> Result<Written, AllocError>
     ensures { IfOk result (λ x. x ≡ t.prefixed prefixes tree) }
 {
-    if prefixes.is_empty() {
+    if prefixes.is_empty() || is_missing(&tree) {
         return Ok(tree);
     }
     let operand = Boxed::new(alloc, tree)?;
@@ -126,6 +132,15 @@ pub(crate) fn chain_operand(alloc: Global, chain: Chain) -> Result<Operand, Allo
     })
 }
 
+/// A side of a relation, where the text is cut off before the relation.
+pub(crate) fn cut_side(alloc: Global, chain: Chain) -> Result<Operand, AllocError>
+    ensures { IfOk result (λ x. x ≡ t.cut_side chain) }
+{
+    let end = other_end(chain.end.count);
+    let tree = linked(alloc, chain.first, chain.links)?;
+    Ok(Operand { tree, end })
+}
+
 pub(crate) fn no_items(alloc: Global, count: u32) -> Contents
     ensures { result ≡ t.no_items count }
 {
@@ -152,7 +167,7 @@ pub(crate) fn first_item(alloc: Global, x: Operand) -> Result<Contents, AllocErr
     Ok(Contents { items, end: x.end })
 }
 
-pub(crate) fn filled(all: Contents, close: Place) -> Filled
+pub(crate) fn filled(all: Contents, close: Option<Place>) -> Filled
     ensures { result ≡ t.filled all close }
 {
     Filled {
@@ -205,10 +220,19 @@ pub(crate) fn name_atom(name: Identifier, count: u32) -> Atom
     }
 }
 
-pub(crate) fn struct_atom(place: Place, count: u32, tag: Identifier) -> Atom
+pub(crate) fn missing_atom(count: u32) -> Atom
+    ensures { result ≡ t.missing_atom count }
+{
+    atom(Written::Missing, Class::Other, count)
+}
+
+pub(crate) fn struct_atom(place: Place, count: u32, tag: Option<Identifier>) -> Atom
     ensures { result ≡ t.struct_atom place count tag }
 {
-    atom(Written::Struct(place, tag), Class::Other, count)
+    match tag {
+        Some(tag) => atom(Written::Struct(place, tag), Class::Other, count),
+        None => missing_atom(count),
+    }
 }
 
 pub(crate) fn path_atom(x: Operand) -> Atom
@@ -228,11 +252,20 @@ pub(crate) fn count_in(class: Class, count: u32) -> u32
     }
 }
 
-pub(crate) fn field_operand(place: Place, count: u32, name: Identifier) -> Operand
+fn field_tree(place: Place, name: Option<Identifier>) -> Written
+    ensures { result ≡ t.field_tree place name }
+{
+    match name {
+        Some(name) => Written::Field(place, name),
+        None => Written::Missing,
+    }
+}
+
+pub(crate) fn field_operand(place: Place, count: u32, name: Option<Identifier>) -> Operand
     ensures { result ≡ t.field_operand place count name }
 {
     Operand {
-        tree: Written::Field(place, name),
+        tree: field_tree(place, name),
         end: other_end(count),
     }
 }
@@ -258,7 +291,7 @@ pub(crate) fn subscript_operand(place: Place, all: Filled) -> Operand
     bracket_operand(Opening::Subscript, place, all)
 }
 
-pub(crate) fn path_operand(place: Place, all: Contents, close: Place) -> Operand
+pub(crate) fn path_operand(place: Place, all: Contents, close: Option<Place>) -> Operand
     ensures { result ≡ t.bracket_operand opening.Path place (t.filled all close) }
 {
     bracket_operand(Opening::Path, place, filled(all, close))

@@ -11,5 +11,5 @@ mod values;
 
 pub use laws::has_one_reading;
 pub use read_terms::read_nested;
-pub use reading::read_written;
-pub use values::Operand;
+pub use reading::{read_written, refusal_before, refused_number};
+pub use values::{Operand, Passage};

@@ -7,14 +7,14 @@ ghost use Rattle.floyd_termread_tables.specs.declared.values.Form.TheVariants as
 
 use crate::build_terms::{
     atom, bracket_atom, chain_operand, count_in, field_operand, filled, first_item, first_link,
-    name_atom, no_items, path_atom, path_operand, plus_item, plus_link, struct_atom,
+    missing_atom, name_atom, no_items, path_atom, path_operand, plus_item, plus_link, struct_atom,
     subscript_operand, with_prefixes,
 };
 use crate::read_prefixes::read_prefixes;
 use crate::take_terms::{
-    leads_empty_end, leads_item, leads_link, leads_step, refuse_side, take_bracket_end, take_call,
-    take_empty_end, take_link, take_open, take_operand, take_separator, take_step, take_steps_end,
-    take_tag, want_of_next,
+    leads_empty_end, leads_item, leads_link, leads_step, take_bracket_end, take_call,
+    take_empty_end, take_link, take_open, take_operand, take_separator, take_side_end, take_step,
+    take_steps_end, take_tag, want_of_next,
 };
 use crate::values::{Atom, Chain, Contents, Filled, Operand, Prefixes, StepStart};
 use floyd_cparse_trees::Identifier;
@@ -132,7 +132,7 @@ fn finish_chain(
     ensures { Gives result reader.new (r.finish_chain room (nested room) chain reader.old) }
 {
     if chain.end.kind.must_relate() {
-        return refuse_side(reader, room, &chain);
+        return take_side_end(alloc, reader, room, chain);
     }
     Ok(chain_operand(alloc, chain)?)
 }
@@ -238,7 +238,7 @@ struct Formed {
 
 /// The bracket behind a word.
 #[cycle(terms)]
-#[tactic(auto, unfolding(crate::specs::TermClauses::form_of))]
+#[tactic(auto, unfolding(crate::specs::TermClauses::form_of, crate::specs::TermClauses::after_open))]
 fn read_form(
     alloc: Global,
     reader: &mut Reader<'_>,
@@ -249,7 +249,9 @@ fn read_form(
     requires { room ≤ 200 }
     ensures { Gives result reader.new (r.form_of room (nested room) formed.word formed.form formed.class formed.place count reader.old) }
 {
-    let open = take_open(reader, room, count)?;
+    let Some(open) = take_open(reader, room, count)? else {
+        return Ok(missing_atom(count));
+    };
     let count = count_in(formed.class, count);
     let all = read_bracket(alloc, reader, room, formed.form, count)?;
     let opening = Opening::Word(formed.word, formed.place);
@@ -271,7 +273,7 @@ fn read_bracket(
 {
     if leads_empty_end(reader, form) {
         let close = take_empty_end(reader, form)?;
-        return Ok(filled(no_items(alloc, count), close));
+        return Ok(filled(no_items(alloc, count), Some(close)));
     }
     let all = read_contents(alloc, reader, room, form, count)?;
     let close = take_bracket_end(reader, inside(room), form, &all)?;

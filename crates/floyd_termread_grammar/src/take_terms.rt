@@ -1,20 +1,23 @@
 //! Tokens of terms and formulas, as the reader takes them.
-ghost use Rattle.std.specs.Prelude.{◌≡◌, ◌<◌, ◌^◌, ◌≤◌, ◌+◌, IfOk};
+ghost use Rattle.std.specs.Prelude.{◌≡◌, ◌<◌, ◌^◌, ◌≤◌, ◌+◌, IfOk, IfSome};
 ghost use Rattle.floyd_grammar.specs.ParseClauses.{leads, one};
 ghost use Rattle.floyd_grammar.specs.GivesClauses.{Gives};
 ghost use Rattle.floyd_cparse_tokens.specs.Tokens.{is_there};
 ghost use Rattle.floyd_termread_grammar.specs.Terms as t;
 ghost use Rattle.floyd_termread_grammar.specs.TermClauses.{begins_link};
 
+use crate::build_terms::cut_side;
 use crate::values::{Chain, Contents, Operand, Prefixes, StepStart};
 use floyd_cparse_tokens::found_or;
 use floyd_cparse_trees::Identifier;
 use floyd_grammar::Stop;
 use floyd_lex::Punctuator;
 use floyd_termread_tables::{
-    Form, LinkStart, PrefixStart, Start, Want, goes_on, is_infix, link_start, prefix_of, start_of,
+    Class, Form, LinkStart, PrefixStart, Start, Want, goes_on, is_infix, link_start, prefix_of,
+    start_of,
 };
 use floyd_termread_tokens::{Reader, Seen, UNEXPECTED};
+use floyd_termread_trees::Written;
 use floyd_text::Place;
 use std::alloc::Global;
 
@@ -57,6 +60,9 @@ pub(crate) fn take_operand(
     if begins_prefix(&token, all) {
         return reader.take(Err(UNEXPECTED));
     }
+    if token.is_cut() {
+        return reader.take(Ok(Start::Alone(Written::Missing, Class::Other)));
+    }
     let start = start_of(alloc, all.want, all.minus, &token)?;
     reader.take(token.demand(room, all.count as u64 + all.run as u64, start))
 }
@@ -83,21 +89,44 @@ pub(crate) fn take_link(
     reader.take(token.offer(room, chain.end.count as u64, start))
 }
 
-/// Refuses what stands behind a side of a relation that has no relation.
-pub(crate) fn refuse_side(
+/// Refuses what stands behind a side of a relation that has no relation, unless the text is cut off there.
+pub(crate) fn take_side_end(
+    alloc: Global,
     reader: &mut Reader<'_>,
     room: u32,
-    chain: &Chain,
+    chain: Chain,
 ) -> Result<Operand, Stop>
-    ensures { Gives result reader.new (one (t.side_end room chain.now) reader.old) }
+    ensures { Gives result reader.new (one (t.side_end room chain) reader.old) }
 {
     let token = reader.peek()?;
+    if token.is_cut() {
+        let side = cut_side(alloc, chain)?;
+        return reader.take(Ok(side));
+    }
     let cause = if goes_on(chain.end, &token) {
         UNEXPECTED
     } else {
         token.blame(room, chain.end.count as u64)
     };
     reader.take(Err(cause))
+}
+
+fn known_place(place: Option<Place>) -> Option<Option<Place>>
+    ensures { result ≡ t.known_place place }
+{
+    match place {
+        Some(place) => Some(Some(place)),
+        None => None,
+    }
+}
+
+fn known_name(name: Option<Identifier>) -> Option<Option<Identifier>>
+    ensures { result ≡ t.known_name name }
+{
+    match name {
+        Some(name) => Some(Some(name)),
+        None => None,
+    }
 }
 
 fn more_items(token: &Seen<'_>, form: Form, all: &Contents) -> bool
@@ -140,17 +169,20 @@ pub(crate) fn take_bracket_end(
     room: u32,
     form: Form,
     all: &Contents,
-) -> Result<Place, Stop>
+) -> Result<Option<Place>, Stop>
     ensures { Gives result reader.new (one (t.bracket_end room form all.now) reader.old) }
 {
     let token = reader.peek()?;
+    if token.is_cut() {
+        return reader.take(Ok(None));
+    }
     let cause = if more_items(&token, form, all) || goes_on(all.end, &token) {
         UNEXPECTED
     } else {
         token.blame(room, all.end.count as u64)
     };
     let closes = form.is_enough(all.items.len()) && token.is_mark(form.closing_mark());
-    let place = token.place_if(closes);
+    let place = known_place(token.place_if(closes));
     reader.take(found_or(cause, place))
 }
 
@@ -186,12 +218,19 @@ pub(crate) fn take_call(reader: &mut Reader<'_>, room: u32, count: u32) -> Resul
     reader.take(token.offer(room, count as u64, place))
 }
 
-pub(crate) fn take_open(reader: &mut Reader<'_>, room: u32, count: u32) -> Result<Place, Stop>
+pub(crate) fn take_open(
+    reader: &mut Reader<'_>,
+    room: u32,
+    count: u32,
+) -> Result<Option<Place>, Stop>
     ensures value { Gives result reader.new (one (t.open_token room count) reader.old) }
-    ensures room { IfOk result (λ _. count ≤ room + 1) }
+    ensures room { IfOk result (λ opened. IfSome opened (λ _. count ≤ room + 1)) }
 {
     let token = reader.peek()?;
-    let place = token.place_if(token.is_mark(Punctuator::OpenParen));
+    if token.is_cut() {
+        return reader.take(Ok(None));
+    }
+    let place = known_place(token.place_if(token.is_mark(Punctuator::OpenParen)));
     reader.take(token.demand(room, count as u64, place))
 }
 
@@ -200,11 +239,14 @@ pub(crate) fn take_tag(
     reader: &mut Reader<'_>,
     room: u32,
     count: u32,
-) -> Result<Identifier, Stop>
+) -> Result<Option<Identifier>, Stop>
     ensures { Gives result reader.new (one (t.tag_token room count) reader.old) }
 {
     let token = reader.peek()?;
-    let name = token.given_name(alloc)?;
+    if token.is_cut() {
+        return reader.take(Ok(None));
+    }
+    let name = known_name(token.given_name(alloc)?);
     reader.take(token.demand(room, count as u64, name))
 }
 
@@ -245,15 +287,18 @@ pub(crate) fn take_steps_end(
     reader: &mut Reader<'_>,
     room: u32,
     all: &Contents,
-) -> Result<Place, Stop>
+) -> Result<Option<Place>, Stop>
     ensures { Gives result reader.new (one (t.steps_end room all.now) reader.old) }
 {
     let token = reader.peek()?;
+    if token.is_cut() {
+        return reader.take(Ok(None));
+    }
     let cause = if step_at(&token).is_some() {
         UNEXPECTED
     } else {
         token.blame(room, all.end.count as u64)
     };
-    let place = token.place_if(token.is_mark(Punctuator::CloseBracket));
+    let place = known_place(token.place_if(token.is_mark(Punctuator::CloseBracket)));
     reader.take(found_or(cause, place))
 }

@@ -2,8 +2,17 @@
 
 use floyd_termread_tables::{Class, End, Want};
 use floyd_termread_trees::{Link, Prefix, Written};
-use floyd_text::Place;
+use floyd_text::{Place, Refusal};
 use sqlite_items::Items;
+
+/// What is written from one token on, whole or cut off.
+#[derive(Drop)]
+pub struct Passage {
+    /// The tree, in which what is missing is left open where it is cut off.
+    pub tree: Written,
+    /// The number of the token behind it, or the refusal that cuts it off.
+    pub end: Result<u32, Refusal>,
+}
 
 /// An operand without the operators before it.
 #[derive(Drop)]
@@ -53,7 +62,8 @@ pub struct Contents {
 pub struct Filled {
     pub items: Items<Written>,
     pub end: End,
-    pub close: Place,
+    /// None where the text is cut off before it.
+    pub close: Option<Place>,
 }
 
 /// What a step of a path begins with.

@@ -1,5 +1,5 @@
 -- How deep written trees are, as the program has them.
-use Rattle.std.proofs.Common.{◌≡◌, ℕ, ◌+◌, ◌≤◌, max, List, [], ◌∷◌, take, refl, ap, ◌∙◌, arith}
+use Rattle.std.proofs.Common.{◌≡◌, ℕ, ◌+◌, ◌≤◌, max, List, [], ◌∷◌, take, refl, ap, ◌∙◌, arith, Option}
 use Rattle.std.specs.Prelude.{zero, suc}
 use denote.Hole.Carrier.{hidden}
 use Rattle.floyd_text.specs.declared.place.Place.{Place}
@@ -26,7 +26,7 @@ pub height_prefixed : (prefixes : List Prefix) (x : w.Written) → height (w.Pre
 unfolding shape-the_row-Written-1 hidden-the_row-Written-1 hidden
 height_prefixed prefixes x = refl
 
-pub height_bracket : (opening : Opening) (place : Place) (items : List w.Written) (close : Place) → height (w.Bracket opening place items close) ≡ highest items + 1
+pub height_bracket : (opening : Opening) (place : Place) (items : List w.Written) (close : Option Place) → height (w.Bracket opening place items close) ≡ highest items + 1
 height_bracket opening place items close = ap (λ n. n + 1) (heights_items (hidden-the_row-Written-0 items) ∙ ap highest (items_hidden-the_row-Written-0 items))
 
 -- no part is higher

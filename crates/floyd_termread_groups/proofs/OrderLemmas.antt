@@ -197,13 +197,14 @@ alone_shown x = table_shown x [] ∙ append-nil (operand_shown x)
 
 mutual
   operand_text : (tree : w.Written) → operand_shown (operand tree) ≡ text_of tree
+  operand_text w.Missing = refl
   operand_text (w.Literal value place) = refl
   operand_text (w.Name name) = refl
   operand_text (w.Word word place) = refl
   operand_text (w.Struct place tag) = refl
   operand_text (w.Field place name) = refl
   operand_text (w.Bracket' opening place shape items close) =
-      shown_bracket opening place (all_grouped items) (Some close) ∙ ap (λ (l : List Piece). Opens opening place ∷ (l ++ Closes (Some close) ∷ [])) (items_text items)
+      shown_bracket opening place (all_grouped items) close ∙ ap (λ (l : List Piece). Opens opening place ∷ (l ++ Closes close ∷ [])) (items_text items)
   operand_text (w.Prefixed' prefixes p (w.more_of-Written x w.end_of-Written)) = ap (λ (l : List Piece). map Before prefixes ++ l) (alone_shown (operand x) ∙ operand_text x)
   operand_text (w.Chain' p (w.more_of-Written x w.end_of-Written) shape links) =
       table_shown (operand x) (steps links) ∙ ap (λ (l : List Piece). l ++ steps_shown (steps links)) (operand_text x) ∙ ap (λ (l : List Piece). text_of x ++ l) (links_text links)

@@ -1,5 +1,5 @@
 -- Written trees as the program has them.
-use Rattle.std.proofs.Common.{◌≡◌, ℕ, List, map, [], ◌∷◌, Some, None, refl, ap, ◌∙◌, sym}
+use Rattle.std.proofs.Common.{◌≡◌, ℕ, List, map, [], ◌∷◌, Some, None, refl, ap, ◌∙◌, sym, Option}
 use Rattle.floyd_cparse_trees.specs.declared.types.Identifier.{Identifier}
 use Rattle.floyd_termread_trees.specs.declared.words.Word.{Word}
 use Rattle.floyd_termread_groups.specs.declared.strengths.Level.{Level}
@@ -39,10 +39,10 @@ pub operand_prefixed : (prefixes : List Prefix) (x : w.Written) → operand (w.P
 unfolding shape-the_row-Written-1 hidden-the_row-Written-1 hidden
 operand_prefixed prefixes x = refl
 
-pub grouped_bracket : (opening : Opening) (place : Place) (items : List w.Written) (close : Place) → grouped (w.Bracket opening place items close) ≡ g.Bracket opening place (map grouped items) (Some close)
+pub grouped_bracket : (opening : Opening) (place : Place) (items : List w.Written) (close : Option Place) → grouped (w.Bracket opening place items close) ≡ g.Bracket opening place (map grouped items) close
 grouped_bracket opening place items close =
-    row_alone (g.Bracket opening place (all_grouped (hidden-the_row-Written-0 items)) (Some close))
-    ∙ ap (λ (l : List Grouped). g.Bracket opening place l (Some close)) (all_items (hidden-the_row-Written-0 items) ∙ ap (map grouped) (items_hidden-the_row-Written-0 items))
+    row_alone (g.Bracket opening place (all_grouped (hidden-the_row-Written-0 items)) close)
+    ∙ ap (λ (l : List Grouped). g.Bracket opening place l close) (all_items (hidden-the_row-Written-0 items) ∙ ap (map grouped) (items_hidden-the_row-Written-0 items))
 
 -- what stands alone
 pub is_alone : (x : w.Written) (y : Grouped) → operand x ≡ alone y → operand x ≡ operand_of [] (grouped x)
@@ -50,12 +50,13 @@ is_alone x y e = e ∙ sym (ap (λ (z : Grouped). alone z) (ap (λ (o : Operand)
 
 pub other_operand : (x : w.Written) → ((prefixes : List Prefix) (y : w.Written) → x ≡ w.Prefixed prefixes y → ⊥) → operand x ≡ operand_of [] (grouped x)
 unfolding shape-the_row-Written-1 hidden-the_row-Written-1 hidden
+other_operand w.Missing h = is_alone w.Missing g.Missing refl
 other_operand (w.Literal value place) h = is_alone (w.Literal value place) (g.Literal None value place) refl
 other_operand (w.Name name) h = is_alone (w.Name name) (g.Name name) refl
 other_operand (w.Word word place) h = is_alone (w.Word word place) (g.Word word place) refl
 other_operand (w.Struct place tag) h = is_alone (w.Struct place tag) (g.Struct place tag) refl
 other_operand (w.Field place name) h = is_alone (w.Field place name) (g.Field place name) refl
-other_operand (w.Bracket' opening place shape items close) h = is_alone (w.Bracket' opening place shape items close) (g.Bracket opening place (all_grouped items) (Some close)) refl
+other_operand (w.Bracket' opening place shape items close) h = is_alone (w.Bracket' opening place shape items close) (g.Bracket opening place (all_grouped items) close) refl
 other_operand (w.Prefixed' prefixes p (w.more_of-Written x w.end_of-Written)) h = absurd (h prefixes x refl)
 other_operand (w.Chain' p (w.more_of-Written x w.end_of-Written) shape links) h = is_alone (w.Chain' p (w.more_of-Written x w.end_of-Written) shape links) (row table (operand x) (steps links)) refl
 
@@ -63,6 +64,9 @@ other_operand (w.Chain' p (w.more_of-Written x w.end_of-Written) shape links) h 
 module _ (tree : w.Written) where
   pub literal_is : (value : ℕ) (place : Place) → tree ≡ w.Literal value place → g.Literal None value place ≡ grouped tree
   literal_is value place is = sym (ap grouped is ∙ row_alone (g.Literal None value place))
+
+  pub missing_is : tree ≡ w.Missing → g.Missing ≡ grouped tree
+  missing_is is = sym (ap grouped is ∙ row_alone g.Missing)
 
   pub word_is : (word : Word) (place : Place) → tree ≡ w.Word word place → g.Word word place ≡ grouped tree
   word_is word place is = sym (ap grouped is ∙ row_alone (g.Word word place))
@@ -76,11 +80,11 @@ module _ (tree : w.Written) where
   pub field_is : (place : Place) (name copy : Identifier) → tree ≡ w.Field place name → copy ≡ name → g.Field place copy ≡ grouped tree
   field_is place name copy is same = ap (λ (x : Identifier). g.Field place x) same ∙ sym (ap grouped is ∙ row_alone (g.Field place name))
 
-  pub bracket_is : (opening opens : Opening) (place : Place) (items x_items : List w.Written) (all : List Grouped) (close : Place) → tree ≡ w.Bracket opening place items close → opens ≡ opening → x_items ≡ items → all ≡ map grouped x_items
-      → g.Bracket opens place all (Some close) ≡ grouped tree
+  pub bracket_is : (opening opens : Opening) (place : Place) (items x_items : List w.Written) (all : List Grouped) (close : Option Place) → tree ≡ w.Bracket opening place items close → opens ≡ opening → x_items ≡ items → all ≡ map grouped x_items
+      → g.Bracket opens place all close ≡ grouped tree
   bracket_is opening opens place items x_items all close is same_opening same_items made =
-      ap (λ (o : Opening). g.Bracket o place all (Some close)) same_opening
-      ∙ ap (λ (l : List Grouped). g.Bracket opening place l (Some close)) (made ∙ ap (map grouped) same_items)
+      ap (λ (o : Opening). g.Bracket o place all close) same_opening
+      ∙ ap (λ (l : List Grouped). g.Bracket opening place l close) (made ∙ ap (map grouped) same_items)
       ∙ sym (ap grouped is ∙ grouped_bracket opening place items close)
 
   pub prefixed_is : (levels : List Level) (prefixes x_prefixes : List Prefix) (x x_x : w.Written) → tree ≡ w.Prefixed prefixes x → levels ≡ table → x_prefixes ≡ prefixes → x_x ≡ x

@@ -108,12 +108,13 @@ alone x = operand_of [] x
 abbrev mutual
   -- a tree as an operand of a row
   pub operand : w.Written → Operand
+  operand w.Missing = alone g.Missing
   operand (w.Literal value place) = alone (g.Literal None value place)
   operand (w.Name name) = alone (g.Name name)
   operand (w.Word word place) = alone (g.Word word place)
   operand (w.Struct place tag) = alone (g.Struct place tag)
   operand (w.Field place name) = alone (g.Field place name)
-  operand (w.Bracket' opening place shape items close) = alone (g.Bracket opening place (all_grouped items) (Some close))
+  operand (w.Bracket' opening place shape items close) = alone (g.Bracket opening place (all_grouped items) close)
   operand (w.Prefixed' prefixes p (w.more_of-Written x w.end_of-Written)) = operand_of prefixes (row table (operand x) [])
   operand (w.Chain' p (w.more_of-Written x w.end_of-Written) shape links) = alone (row table (operand x) (steps links))
 

@@ -5,6 +5,7 @@ use Rattle.floyd_termread_trees.specs.declared.written.Written as w
 
 abbrev mutual
   pub height : w.Written → ℕ
+  height w.Missing = 0
   height (w.Literal value place) = 0
   height (w.Name name) = 0
   height (w.Word word place) = 0

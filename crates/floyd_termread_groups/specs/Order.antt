@@ -27,12 +27,13 @@ pub data Piece : Type 0 where
 
 abbrev mutual
   pub text_of : w.Written → List Piece
+  text_of w.Missing = []
   text_of (w.Literal value place) = Number value place ∷ []
   text_of (w.Name name) = Named name ∷ []
   text_of (w.Word word place) = Worded word place ∷ []
   text_of (w.Struct place tag) = Tagged place tag ∷ []
   text_of (w.Field place name) = Field place name ∷ []
-  text_of (w.Bracket' opening place shape items close) = Opens opening place ∷ (texts_of items ++ Closes (Some close) ∷ [])
+  text_of (w.Bracket' opening place shape items close) = Opens opening place ∷ (texts_of items ++ Closes close ∷ [])
   text_of (w.Prefixed' prefixes p (w.more_of-Written x w.end_of-Written)) = map Before prefixes ++ text_of x
   text_of (w.Chain' p (w.more_of-Written x w.end_of-Written) shape links) = text_of x ++ text_of_links links
 

@@ -18,6 +18,7 @@ pub fn group(alloc: Global, tree: &Written) -> Result<Grouped, AllocError>
     ensures exact { IfOk result (λ x. x ≡ g.grouped tree.now) }
 {
     match tree {
+        Written::Missing => Ok(Grouped::Missing),
         Written::Literal { value, place } => Ok(Grouped::Literal {
             minus: None,
             value: *value,
@@ -39,7 +40,7 @@ pub fn group(alloc: Global, tree: &Written) -> Result<Grouped, AllocError>
                 opening,
                 place: *place,
                 items,
-                close: Some(*close),
+                close: *close,
             })
         }
         Written::Prefixed { prefixes, operand } => {

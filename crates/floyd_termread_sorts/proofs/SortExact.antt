@@ -15,11 +15,12 @@ use Rattle.floyd_grammar.proofs.Repeat.{repeat, folded_nil}
 use Rattle.floyd_grammar.proofs.Lists.{separated, closed, closed_any}
 use Rattle.floyd_cparse_tokens.specs.Tokens.{found_or}
 use Rattle.floyd_cparse_tokens.proofs.TokenLemmas.{or_cases, not_true, not_false, closing_meant, closing_taken, closing_unless, mark_kind}
+use Rattle.floyd_termread_trees.specs.declared.words.SortWord.TheVariants as s
 use Rattle.floyd_termread_trees.specs.declared.written.Binder.{Binder}
 use Rattle.floyd_termread_trees.specs.declared.written.SortItem.{SortItem}
 use Rattle.floyd_termread_trees.specs.declared.written.SortItem.TheVariants as item
-use Rattle.floyd_termread_tokens.specs.Tokens.{is_mark, place_if, demand, without_room}
-use Rattle.floyd_termread_tokens.proofs.TakeLemmas.{there_place, mark_apart}
+use Rattle.floyd_termread_tokens.specs.Tokens.{is_mark, place_if, blame, demand, unless_cut, without_room}
+use Rattle.floyd_termread_tokens.proofs.TakeLemmas.{there_place, mark_apart, cut_cases, cut_no_mark}
 use Rattle.floyd_termread_sorts.specs.declared.values.Binders.{Binders}
 use Rattle.floyd_termread_sorts.specs.declared.values.SortParts.{SortParts}
 use Rattle.floyd_termread_sorts.specs.declared.values.SortStart.{SortStart}
@@ -34,7 +35,7 @@ guarded true o e = absurd (true≢false (sym e))
 guarded false o e = refl
 
 sort_meant : (room count : ℕ) (parts : SortParts) (t : Token) → is_meant (g.sort_token room count parts t) ≡ true → wants_more parts t ≡ true
-sort_meant room count parts t e = guarded (g.wants_none parts) (demand room (count + parts.run) t (g.sort_start t)) e
+sort_meant room count parts t e = guarded (g.wants_none parts) (unless_cut t (start.Word s.Z t.place) (demand room (count + parts.run) t (g.sort_start t))) e
 
 -- what the readers one bracket further in keep to
 pub record InnerSorts (ri : ℕ → Parser Token (List SortItem)) (gi : ℕ → Phrase Token (List SortItem)) : Type 0 where
@@ -118,7 +119,7 @@ module _ (room count : ℕ) where
   comma_meant : (t : Token) → is_meant (g.comma_token t) ≡ true → is_mark p.Comma t ≡ true
   comma_meant t e = there_place (is_mark p.Comma t) t (closing_meant (place_if (is_mark p.Comma t) t) e)
 
-  binders_exact : (depth : ℕ) → Exact (r.binders room count depth) (g.binders room count depth) (λ t. is_taken (g.binder_name room depth [] t)) (λ t. is_blamed (g.binder_name room depth [] t)) (λ x t. is_mark p.Comma t)
+  pub binders_exact : (depth : ℕ) → Exact (r.binders room count depth) (g.binders room count depth) (λ t. is_taken (g.binder_name room depth [] t)) (λ t. is_blamed (g.binder_name room depth [] t)) (λ x t. is_mark p.Comma t)
   unfolding r.binders
   binders_exact depth =
       separated (λ (all : Binders). g.comma_token) (λ all. is_mark p.Comma) g.plus_binder g.first_binder (λ (all : Binders) t. is_mark p.Comma t)
@@ -129,11 +130,19 @@ module _ (room count : ℕ) where
   binders_solid depth x d =
       seq_solid (g.binder room count depth []) (λ first. phrase.folded g.plus_binder (λ (all : Binders). phrase.◌>>=◌ (phrase.one g.comma_token) (λ _. g.binder room count count all.names)) (g.first_binder first)) (binder_solid depth []) x d
 
-  dot_meant : (t : Token) → is_meant (g.dot_token room count t) ≡ true → is_mark p.Comma t ≡ false
-  dot_meant t e =
-      or_cases (is_taken (g.dot_token room count t)) (is_blamed (g.dot_token room count t)) e
+  abbrev dot_of : Token → Result Place ℕ
+  dot_of t = found_or (if is_mark p.Comma t then 0 else blame room count t) (place_if (is_mark p.Dot t) t)
+
+  dot_found : (t : Token) → is_meant (dot_of t) ≡ true → is_mark p.Comma t ≡ false
+  dot_found t e =
+      or_cases (is_taken (dot_of t)) (is_blamed (dot_of t)) e
       (λ h. mark_apart p.Dot p.Comma t refl (there_place (is_mark p.Dot t) t (closing_taken _ (place_if (is_mark p.Dot t) t) h)))
       (λ h. closing_unless (is_mark p.Comma t) _ (place_if (is_mark p.Dot t) t) h)
+
+  dot_meant : (t : Token) → is_meant (g.dot_token room count t) ≡ true → is_mark p.Comma t ≡ false
+  dot_meant t e =
+      cut_cases t t.place (dot_of t) e
+      (λ h. cut_no_mark p.Comma t h) (λ h. dot_found t h)
 
   pub quantified_exact : (depth : ℕ) → Exact (r.quantified room count depth) (g.quantified room count depth) (λ t. is_taken (g.binder_name room depth [] t)) (λ t. is_blamed (g.binder_name room depth [] t)) (λ x t. false)
   unfolding r.quantified

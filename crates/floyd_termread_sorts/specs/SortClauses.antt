@@ -12,7 +12,12 @@ use Rattle.floyd_termread_sorts.specs.declared.values.Binders.{Binders}
 use Rattle.floyd_termread_sorts.specs.declared.values.SortParts.{SortParts}
 use Rattle.floyd_termread_sorts.specs.declared.values.SortStart.{SortStart}
 use Rattle.floyd_termread_sorts.specs.declared.values.SortStart.TheVariants as start
-use Rattle.floyd_termread_sorts.specs.Sorts.{no_sort, plus_sort, wants_none, sort_token, sort_end, binder_name, colon_token, comma_token, dot_token, plus_binder, first_binder, binder_of}
+use Rattle.floyd_termread_sorts.specs.Sorts.{run_behind, no_sort, plus_sort, wants_none, sort_token, sort_end, binder_name, colon_token, comma_token, dot_token, plus_binder, first_binder, binder_of}
+
+-- the operators at the end of a row behind what begins so
+abbrev pub run_at : SortStart → ℕ → ℕ
+run_at (start.Word word place) n = run_behind (item.Word word place) n
+run_at (start.Open place) n = 0
 
 -- a sort is still wanted
 abbrev pub wants_more : SortParts → Token → Bool

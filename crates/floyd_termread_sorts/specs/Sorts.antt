@@ -5,6 +5,9 @@
 --
 -- A sort is read as the row of its words: each operator stands before the sorts that it takes, so a row is whole where no
 -- sort is wanted any more. An operator of sorts counts as deep only for what stands directly behind a run of them.
+--
+-- Where the text is cut off, each sort that is still wanted is read as `Z`, and a name, a mark or a closing parenthesis that
+-- is missing as if it stood there: what is read of such binders is not looked at.
 use Rattle.std.specs.Prelude.{ℕ, zero, suc, ◌+◌, pred, ◌==◌, Bool, true, false, not, ◌&&◌, if◌then◌else◌, Option, Some, None, Result, Ok, Err, List, [], ◌∷◌, ◌++◌}
 use Rattle.floyd_text.specs.declared.place.Place.{Place}
 use Rattle.floyd_lex.specs.declared.kinds.Punctuator.TheVariants as p
@@ -20,7 +23,7 @@ use Rattle.floyd_termread_trees.specs.declared.written.Binder.{Binder}
 use Rattle.floyd_termread_trees.specs.declared.written.SortItem.{SortItem}
 use Rattle.floyd_termread_trees.specs.declared.written.SortItem as written
 use Rattle.floyd_termread_trees.specs.declared.written.SortItem.TheVariants as item
-use Rattle.floyd_termread_tokens.specs.Tokens.{unexpected, is_mark, is_name, identifier_of, place_if, word_at, blame, without_room, demand}
+use Rattle.floyd_termread_tokens.specs.Tokens.{unexpected, is_mark, is_name, identifier_of, place_if, word_at, blame, without_room, demand, unless_cut}
 use Rattle.floyd_termread_tokens.specs.Words.{is_free}
 use Rattle.floyd_termread_sorts.specs.declared.values.Binders.{Binders}
 use Rattle.floyd_termread_sorts.specs.declared.values.SortParts.{SortParts}
@@ -59,10 +62,10 @@ abbrev pub wants_none : SortParts → Bool
 wants_none parts = parts.wanted == 0
 
 abbrev pub sort_token : ℕ → ℕ → SortParts → Token → Result SortStart ℕ
-sort_token room count parts t = if wants_none parts then Err unexpected else demand room (count + parts.run) t (sort_start t)
+sort_token room count parts t = if wants_none parts then Err unexpected else unless_cut t (start.Word s.Z t.place) (demand room (count + parts.run) t (sort_start t))
 
 abbrev pub sort_end : ℕ → ℕ → Token → Result Place ℕ
-sort_end room count t = found_or (blame room count t) (place_if (is_mark p.CloseParen t) t)
+sort_end room count t = unless_cut t t.place (found_or (blame room count t) (place_if (is_mark p.CloseParen t) t))
 
 -- a row, if it is whole
 abbrev pub whole_row : Bool → List SortItem → Phrase Token (List SortItem)
@@ -102,17 +105,17 @@ abbrev pub fresh_name : List (List ℕ) → Token → Option Identifier
 fresh_name names t = if is_name t && is_free t.text && not (is_type_text names t.text) then Some (identifier_of t) else None
 
 abbrev pub binder_name : ℕ → ℕ → List (List ℕ) → Token → Result Identifier ℕ
-binder_name room depth names t = demand room depth t (fresh_name names t)
+binder_name room depth names t = unless_cut t (identifier_of t) (demand room depth t (fresh_name names t))
 
 abbrev pub colon_token : ℕ → ℕ → Token → Result Place ℕ
-colon_token room count t = demand room count t (place_if (is_mark p.Colon t) t)
+colon_token room count t = unless_cut t t.place (demand room count t (place_if (is_mark p.Colon t) t))
 
 abbrev pub comma_token : Token → Result Place ℕ
 comma_token t = found_or unexpected (place_if (is_mark p.Comma t) t)
 
 -- what goes on is refused, if at all, there
 abbrev pub dot_token : ℕ → ℕ → Token → Result Place ℕ
-dot_token room count t = found_or (if is_mark p.Comma t then unexpected else blame room count t) (place_if (is_mark p.Dot t) t)
+dot_token room count t = unless_cut t t.place (found_or (if is_mark p.Comma t then unexpected else blame room count t) (place_if (is_mark p.Dot t) t))
 
 abbrev pub plus_binder : Binders → Binder → Binders
 plus_binder all x = record { items = all.items ++ x ∷ []; names = with_name (Some x.name.name) all.names }

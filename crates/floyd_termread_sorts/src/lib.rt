@@ -5,4 +5,5 @@ mod read_sorts;
 mod take_sorts;
 mod values;
 
-pub use read_sorts::{read_quantified, read_sort};
+pub use read_sorts::{read_binders, read_quantified, read_sort};
+pub use values::Binders;

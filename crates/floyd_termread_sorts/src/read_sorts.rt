@@ -3,6 +3,7 @@ ghost use Rattle.std.specs.Prelude.{◌<◌, ◌≤◌, ◌^◌, ◌+◌, [], If
 ghost use Rattle.floyd_grammar.specs.GivesClauses.{Gives};
 ghost use Rattle.floyd_termread_sorts.specs.SortClauses as r;
 ghost use Rattle.floyd_termread_sorts.specs.SortClauses.{sorts};
+ghost use Rattle.floyd_termread_sorts.specs.Sorts.{run_behind};
 
 use crate::take_sorts::{
     first_binder, leads_sort, no_sort, plus_binder, plus_sort, refuse_row, take_binder_name,
@@ -14,7 +15,6 @@ use floyd_grammar::Stop;
 use floyd_lex::Punctuator;
 use floyd_termread_tokens::{Reader, inside};
 use floyd_termread_trees::{Binder, SortItem};
-use floyd_text::Place;
 use sqlite_items::Items;
 use std::alloc::Global;
 
@@ -71,8 +71,9 @@ fn read_parts(
     Ok(parts)
 }
 
+/// A word of a sort, or a sort in parentheses.
 #[cycle(sorts)]
-#[tactic(auto, unfolding(crate::specs::SortClauses::sort_item, crate::specs::SortClauses::after_sort_start))]
+#[tactic(auto, unfolding(crate::specs::SortClauses::sort_item, crate::specs::SortClauses::after_sort_start, crate::specs::SortClauses::parenthesised))]
 fn read_item(
     alloc: Global,
     reader: &mut Reader<'_>,
@@ -82,30 +83,16 @@ fn read_item(
 ) -> Result<SortItem, Stop>
     requires { room ≤ 200 }
     ensures value { Gives result reader.new (r.sort_item room (sorts room) count parts.now reader.old) }
-    ensures room { IfOk result (λ _. parts.now.run ≤ room + 1) }
+    ensures room { IfOk result (λ x. run_behind x parts.now.run ≤ room + 2) }
 {
     match take_sort(reader, room, count, parts)? {
         SortStart::Word(word, place) => Ok(SortItem::Word(word, place)),
-        SortStart::Open(place) => read_parenthesised(alloc, reader, room, count, place),
+        SortStart::Open(place) => {
+            let items = read_sort(alloc, reader, room, count)?;
+            take_sort_end(reader, inside(room), count)?;
+            Ok(SortItem::Parenthesised(place, items))
+        }
     }
-}
-
-/// `sort ")"` behind `(`.
-#[cycle(sorts)]
-#[tactic(auto, unfolding(crate::specs::SortClauses::parenthesised))]
-fn read_parenthesised(
-    alloc: Global,
-    reader: &mut Reader<'_>,
-    room: u32,
-    count: u32,
-    place: Place,
-) -> Result<SortItem, Stop>
-    requires { room ≤ 200 }
-    ensures { Gives result reader.new (r.parenthesised room (sorts room) count place reader.old) }
-{
-    let items = read_sort(alloc, reader, room, count)?;
-    take_sort_end(reader, inside(room), count)?;
-    Ok(SortItem::Parenthesised(place, items))
 }
 
 /// The row, where it wants no sort any more.
@@ -145,7 +132,7 @@ fn read_binder(
 
 /// `name ":" sort { "," name ":" sort }`
 #[tactic(auto, unfolding(crate::specs::SortClauses::binders))]
-fn read_binders(
+pub fn read_binders(
     alloc: Global,
     reader: &mut Reader<'_>,
     room: u32,

@@ -37,11 +37,14 @@ pub(crate) fn take_sort(
     parts: &SortParts,
 ) -> Result<SortStart, Stop>
     ensures value { Gives result reader.new (one (s.sort_token room count parts.now) reader.old) }
-    ensures room { IfOk result (λ _. parts.now.run ≤ room + 1) }
+    ensures room { IfOk result (λ x. r.run_at x parts.now.run ≤ room + 2) }
 {
     let token = reader.peek()?;
     if parts.wanted == 0 {
         return reader.take(Err(UNEXPECTED));
+    }
+    if token.is_cut() {
+        return reader.take(Ok(SortStart::Word(SortWord::Z, token.place())));
     }
     let start = sort_start(&token);
     reader.take(token.demand(room, count as u64 + parts.run as u64, start))
@@ -72,6 +75,9 @@ pub(crate) fn take_sort_end(reader: &mut Reader<'_>, room: u32, count: u32) -> R
     ensures { Gives result reader.new (one (s.sort_end room count) reader.old) }
 {
     let token = reader.peek()?;
+    if token.is_cut() {
+        return reader.take(Ok(token.place()));
+    }
     let cause = token.blame(room, count as u64);
     let place = token.place_if(token.is_mark(Punctuator::CloseParen));
     reader.take(found_or(cause, place))
@@ -88,6 +94,9 @@ pub(crate) fn take_binder_name(
     ensures { Gives result reader.new (one (s.binder_name room depth names.now) reader.old) }
 {
     let token = reader.peek()?;
+    if token.is_cut() {
+        return reader.take(Ok(token.identifier(alloc)?));
+    }
     let name = fresh_name(alloc, &token, names)?;
     reader.take(token.demand(room, depth, name))
 }
@@ -110,6 +119,9 @@ pub(crate) fn take_colon(reader: &mut Reader<'_>, room: u32, count: u32) -> Resu
     ensures { Gives result reader.new (one (s.colon_token room count) reader.old) }
 {
     let token = reader.peek()?;
+    if token.is_cut() {
+        return reader.take(Ok(token.place()));
+    }
     let place = token.place_if(token.is_mark(Punctuator::Colon));
     reader.take(token.demand(room, count as u64, place))
 }
@@ -126,6 +138,9 @@ pub(crate) fn take_dot(reader: &mut Reader<'_>, room: u32, count: u32) -> Result
     ensures { Gives result reader.new (one (s.dot_token room count) reader.old) }
 {
     let token = reader.peek()?;
+    if token.is_cut() {
+        return reader.take(Ok(token.place()));
+    }
     let cause = if token.is_mark(Punctuator::Comma) {
         UNEXPECTED
     } else {

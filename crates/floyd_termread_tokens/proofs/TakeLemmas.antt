@@ -1,7 +1,8 @@
 -- A token that the code looks at and takes, and what it is then.
-use Rattle.std.proofs.Common.{◌≡◌, ℕ, Bool, true, false, List, [], ◌∷◌, drop, Result, Ok, Err, refl, sym, ◌∙◌, ap, subst, true≢false}
+use Rattle.std.proofs.Common.{◌≡◌, ℕ, Bool, true, false, if◌then◌else◌, List, [], ◌∷◌, drop, Result, Ok, Err, refl, sym, ◌∙◌, ap, subst, true≢false}
 use Rattle.std.specs.Prelude.{Option, Some, None}
 use Rattle.floyd_lex.specs.declared.kinds.Punctuator.{Punctuator}
+use Rattle.floyd_lex.specs.declared.kinds.TokenKind.{TokenKind}
 use Rattle.floyd_lex.specs.declared.kinds.TokenKind.TheVariants as k
 use Rattle.floyd_lex.specs.Token.{Token}
 use Rattle.floyd_grammar.specs.declared.stop.Stop.{Stop}
@@ -11,7 +12,7 @@ use Rattle.floyd_grammar.specs.GivesClauses.{Gives}
 use Rattle.floyd_cparse_tokens.specs.Tokens.{is_there, is_mark_kind}
 use Rattle.floyd_cparse_tokens.proofs.TokenLemmas.{mark_kind}
 use Rattle.floyd_termread_tokens.specs.SeenClauses.{take_as}
-use Rattle.floyd_termread_tokens.specs.Tokens.{is_mark, place_if, offer, demand}
+use Rattle.floyd_termread_tokens.specs.Tokens.{is_mark, is_cut, is_cut_kind, unless_cut, place_if, offer, demand}
 
 module _ {A : Type 0} (f : Token → Result A ℕ) where
   one_seen : (ts : List Token) (t : Token) → ts ≡ t ∷ drop 1 ts → take_as (f t) ts ≡ one f ts
@@ -43,3 +44,29 @@ offered_meant room count t (Some x) e = refl
 pub demanded_taken : {A : Type 0} (room count : ℕ) (t : Token) (o : Option A) → is_taken (demand room count t o) ≡ true → is_there o ≡ true
 demanded_taken room count t None e = absurd (true≢false (sym e))
 demanded_taken room count t (Some x) e = refl
+
+-- the end of a text that is cut off is no mark
+pub cut_no_mark : (mark : Punctuator) (t : Token) → is_cut t ≡ true → is_mark mark t ≡ false
+cut_no_mark mark t e = none t.kind e
+  where
+    none : (z : TokenKind) → is_cut_kind z ≡ true → is_mark_kind mark z ≡ false
+    none (k.Keyword word) h = refl
+    none (k.Punctuator other) h = absurd (true≢false (sym h))
+    none k.Name h = refl
+    none (k.Literal type value) h = refl
+    none k.StringLiteral h = refl
+
+-- what is taken or refused where the text may be cut off: the text is cut off there, or it is what else may stand there
+pub cut_cases : {A P : Type 0} (t : Token) (missing : A) (found : Result A ℕ) → is_meant (unless_cut t missing found) ≡ true → (is_cut t ≡ true → P) → (is_meant found ≡ true → P) → P
+cut_cases {A} {P} t missing found e missed else_there = go (is_cut t) refl e
+  where
+    go : (b : Bool) → is_cut t ≡ b → is_meant (if b then Ok missing else found) ≡ true → P
+    go true h m = missed h
+    go false h m = else_there m
+
+pub cut_taken : {A P : Type 0} (t : Token) (missing : A) (found : Result A ℕ) → is_taken (unless_cut t missing found) ≡ true → (is_cut t ≡ true → P) → (is_taken found ≡ true → P) → P
+cut_taken {A} {P} t missing found e missed else_there = go (is_cut t) refl e
+  where
+    go : (b : Bool) → is_cut t ≡ b → is_taken (if b then Ok missing else found) ≡ true → P
+    go true h m = missed h
+    go false h m = else_there m

@@ -1,21 +1,27 @@
 -- Tokens as the code sees them.
-use Rattle.std.specs.Prelude.{ℕ, List, [], ◌∷◌, drop, Result}
+use Rattle.std.specs.Prelude.{ℕ, ◌-◌, List, [], ◌∷◌, ◌++◌, take, drop, replicate, Result, Option, Some, None}
 use Rattle.std.specs.Prelude as base
-use Rattle.floyd_lex.specs.declared.kinds.TokenKind.TheVariants as k
+use Rattle.floyd_lex.specs.declared.kinds.TokenKind.{TokenKind}
 use Rattle.floyd_lex.specs.Token.{Token, TokenList, tokens_in}
 use Rattle.floyd_grammar.specs.ParseClauses.{Parser, taken}
+use Rattle.floyd_termread_tokens.specs.Tokens.{cut, cut_kind}
 
--- no token, which is never looked at
-abbrev pub nowhere : Token
-nowhere = record { kind = k.Name; text = []; start = 0; end = 0; place = record { file = 0; line = 0; column = 0 } }
-
+-- behind the last token a text is cut off
 abbrev pub first_of : List Token → Token
-first_of [] = nowhere
+first_of [] = cut
 first_of (t ∷ ts) = t
 
 -- the tokens from `at` on
 abbrev pub tokens_from : List ℕ → TokenList → ℕ → List Token
 tokens_from bytes list at = drop at (tokens_in bytes list)
+
+-- those before the one of number `end`, and then the end of a text that is cut off there, so many times
+abbrev pub tokens_until : List ℕ → TokenList → ℕ → ℕ → ℕ → List Token
+tokens_until bytes list at end cuts = take (end - at) (tokens_from bytes list at) ++ replicate cuts cut
+
+abbrev pub kind_or_cut : Option TokenKind → TokenKind
+kind_or_cut (Some kind) = kind
+kind_or_cut None = cut_kind
 
 -- the token at `at`
 abbrev pub token_at : List ℕ → TokenList → ℕ → Token

@@ -13,6 +13,7 @@ use Rattle.std.specs.Prelude.{ℕ, ◌+◌, nat_lt, Bool, true, false, ◌&&◌,
 use Rattle.floyd_text.specs.declared.place.Place.{Place}
 use Rattle.floyd_lex.specs.declared.kinds.TokenKind.{TokenKind}
 use Rattle.floyd_lex.specs.declared.kinds.TokenKind.TheVariants as k
+use Rattle.floyd_lex.specs.declared.kinds.Keyword.TheVariants as word
 use Rattle.floyd_lex.specs.declared.kinds.Punctuator.{Punctuator}
 use Rattle.floyd_lex.specs.declared.kinds.Punctuator.TheVariants as p
 use Rattle.floyd_lex.specs.Token.{Token, TokenList, tokens_in}
@@ -20,6 +21,21 @@ use Rattle.floyd_cparse_trees.specs.declared.types.Identifier.{Identifier}
 use Rattle.floyd_cparse_tokens.specs.Tokens.{is_mark_kind, is_name_kind, number, found_or}
 use Rattle.floyd_termread_trees.specs.declared.words.Word.{Word}
 use Rattle.floyd_termread_tokens.specs.Words.{word_of, is_free}
+
+-- The end of a text that is cut off. It is seen in place of each token from there on, for as often as one is looked at. No
+-- other token of a specification or a script is a keyword.
+abbrev pub is_cut_kind : TokenKind → Bool
+is_cut_kind (k.Keyword text) = true
+is_cut_kind rest = false
+
+abbrev pub is_cut : Token → Bool
+is_cut t = is_cut_kind t.kind
+
+abbrev pub cut_kind : TokenKind
+cut_kind = k.Keyword word.Goto
+
+abbrev pub cut : Token
+cut = record { kind = cut_kind; text = []; start = 0; end = 0; place = record { file = 0; line = 0; column = 0 } }
 
 abbrev pub is_mark : Punctuator → Token → Bool
 is_mark mark t = is_mark_kind mark t.kind
@@ -62,6 +78,10 @@ is_closing t = is_mark p.CloseParen t || is_mark p.CloseBracket t
 
 abbrev pub is_deep : ℕ → ℕ → Token → Bool
 is_deep room count t = nat_lt (room + number (is_closing t)) (count + number (is_opening t))
+
+-- what is missing where the text is cut off, and what is found elsewhere
+abbrev pub unless_cut : {A : Type 0} → Token → A → Result A ℕ → Result A ℕ
+unless_cut t missing found = if is_cut t then Ok missing else found
 
 -- for what a token is refused that is not wanted
 abbrev pub blame : ℕ → ℕ → Token → ℕ

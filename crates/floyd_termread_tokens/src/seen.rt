@@ -1,13 +1,13 @@
 //! One token, and for what cause it is refused.
-ghost use Rattle.std.specs.Prelude.{◌≡◌, ◌<◌, ◌^◌, ◌≤◌, ◌+◌, ◌&&◌, pred, IfOk, slice_get, option_map, Some};
-ghost use Rattle.floyd_termread_tokens.specs.SeenClauses.{token_at};
+ghost use Rattle.std.specs.Prelude.{◌≡◌, ◌<◌, ◌^◌, ◌≤◌, ◌+◌, ◌&&◌, pred, IfOk, slice_get, option_map};
+ghost use Rattle.floyd_termread_tokens.specs.SeenClauses.{token_at, kind_or_cut};
 ghost use Rattle.floyd_termread_tokens.specs.Words.{is_free};
 ghost use Rattle.floyd_termread_tokens.specs.Tokens as t;
 ghost use Rattle.floyd_cparse_tokens.specs.Tokens.{number};
 
 use crate::words::{is_free, word_of};
 use floyd_cparse_trees::Identifier;
-use floyd_lex::{Punctuator, TokenKind, Tokens};
+use floyd_lex::{Keyword, Punctuator, TokenKind, Tokens};
 use floyd_termread_trees::Word;
 use floyd_text::{Name, Place};
 use std::alloc::{AllocError, Global};
@@ -18,7 +18,7 @@ pub const UNEXPECTED: u8 = 0;
 
 pub const TOO_DEEP: u8 = 1;
 
-/// A token.
+/// A token, or the end of a text that is cut off.
 pub struct Seen<'a> {
     bytes: &'a [u8],
     tokens: &'a Tokens,
@@ -38,23 +38,23 @@ impl<'a> Drop for Seen<'a> {
 }
 
 impl<'a> Model for Seen<'a> {
-    ghost use Rattle.std.specs.Prelude.{◌≡◌, Some};
+    ghost use Rattle.std.specs.Prelude.{◌≡◌};
     ghost use Rattle.std.specs.Prelude.{slice_get};
     ghost use Rattle.std.specs.Option.{option_map};
     ghost use Rattle.floyd_lex.specs.Token.{Token};
 
     ghost Value = { Token };
 
-    ghost use Rattle.floyd_termread_tokens.specs.SeenClauses.{token_at};
+    ghost use Rattle.floyd_termread_tokens.specs.SeenClauses.{token_at, kind_or_cut};
 
     ghost view = { λ s. token_at s.bytes.now s.tokens.now s.at };
 
-    ghost invariant = { λ s. option_map (λ x. x.kind) (slice_get s.tokens.now.items s.at) ≡ Some s.kind };
+    ghost invariant = { λ s. kind_or_cut (option_map (λ x. x.kind) (slice_get s.tokens.now.items s.at)) ≡ s.kind };
 }
 
 impl<'a> Seen<'a> {
     pub(crate) fn new(bytes: &'a [u8], tokens: &'a Tokens, at: usize, kind: TokenKind) -> Seen<'a>
-        requires { option_map (λ x. x.kind) (slice_get tokens.now.items at) ≡ Some kind }
+        requires { kind_or_cut (option_map (λ x. x.kind) (slice_get tokens.now.items at)) ≡ kind }
         ensures { result ≡ token_at bytes.now tokens.now at }
     {
         Seen {
@@ -74,13 +74,33 @@ impl<'a> Seen<'a> {
     pub fn text(&self) -> &'a [u8]
         ensures { result.now ≡ self.now.text }
     {
+        if self.at >= self.tokens.len() {
+            return &[];
+        }
         self.tokens.text(self.bytes, self.at)
     }
 
     pub fn place(&self) -> Place
         ensures { result ≡ self.now.place }
     {
+        if self.at >= self.tokens.len() {
+            return Place {
+                file: 0,
+                line: 0,
+                column: 0,
+            };
+        }
         self.tokens.place(self.at)
+    }
+
+    /// The text is cut off here.
+    pub fn is_cut(&self) -> bool
+        ensures { result ≡ t.is_cut self.now }
+    {
+        match self.kind() {
+            TokenKind::Keyword(_) => true,
+            _ => false,
+        }
     }
 
     pub fn is_mark(&self, mark: Punctuator) -> bool
@@ -223,6 +243,16 @@ impl<'a> Seen<'a> {
             Some(value) => Ok(value),
             None => Err(self.blame(room, count)),
         }
+    }
+}
+
+/// What a token is, and the end of a text that is cut off where there is none.
+pub(crate) fn kind_of(kind: Option<TokenKind>) -> TokenKind
+    ensures { result ≡ kind_or_cut kind }
+{
+    match kind {
+        Some(kind) => kind,
+        None => TokenKind::Keyword(Keyword::Goto),
     }
 }
 

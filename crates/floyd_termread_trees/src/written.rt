@@ -106,6 +106,8 @@ impl Drop for Prefix {
 /// multiple of the limit on depth.
 #[cycle(written)]
 pub enum Written {
+    /// Nothing, where the text is cut off.
+    Missing,
     Literal {
         value: u128,
         place: Place,
@@ -122,7 +124,8 @@ pub enum Written {
         /// The place of the bracket.
         place: Place,
         items: Items<Written>,
-        close: Place,
+        /// None where the text is cut off before it.
+        close: Option<Place>,
     },
     /// Operators before an operand, at least one, in their order.
     Prefixed {
@@ -141,6 +144,7 @@ impl Drop for Written {
     #[cycle(drop)]
     fn drop(self) {
         match self {
+            Written::Missing => {}
             Written::Literal { value: _, place: _ } => {}
             Written::Name(identifier) => drop(identifier),
             Written::Word(_, _) => {}

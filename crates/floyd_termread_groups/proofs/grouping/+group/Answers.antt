@@ -5,7 +5,7 @@ use Rattle.floyd_termread_groups.specs.HeightClauses.{height, highest, highest_l
 use Rattle.floyd_termread_groups.specs.Groups.{operand_of, grouped}
 use Rattle.floyd_termread_groups.proofs.RowLemmas.{row_between, link_turn}
 use Rattle.floyd_termread_groups.proofs.Heights.{height_chain, height_prefixed, height_bracket, taken_link}
-use Rattle.floyd_termread_groups.proofs.TreeLemmas.{literal_is, word_is, name_is, struct_is, field_is, bracket_is, prefixed_is, chain_is}
+use Rattle.floyd_termread_groups.proofs.TreeLemmas.{missing_is, literal_is, word_is, name_is, struct_is, field_is, bracket_is, prefixed_is, chain_is}
 use Rattle.floyd_termread_groups.proofs.grouping.+group.Goals as goal
 
 pub group-group_all-requires : goal.group-group_all-requires
@@ -19,6 +19,9 @@ group-group_row-requires t c =
 pub group-group_operand-requires : goal.group-group_operand-requires
 group-group_operand-requires t c =
     (omega (arith, c.decreases, ap height c.in-Chain.is, height_chain c.in-Chain.first c.in-Chain.links, ap height c.get-in-Chain.ensures, ap highest_link c.as_slice-in-Chain.ensures, ap (λ (l : List Level). length l) c.table-in-Chain.ensures), tt)
+
+pub group-returns-in-Missing : goal.group-returns-in-Missing
+group-returns-in-Missing t c = record { exact = missing_is c.args.tree.now c.in-Missing.is }
 
 pub group-returns-in-Literal : goal.group-returns-in-Literal
 group-returns-in-Literal t c = record { exact = literal_is c.args.tree.now c.in-Literal.value c.in-Literal.place c.in-Literal.is }

@@ -1,7 +1,7 @@
 use Rattle.std.proofs.Common.{◌+◌, sym, ◌∙◌}
 use Rattle.floyd_cparse_tokens.proofs.ReadLemmas.{gives_next}
 use Rattle.floyd_termread_sorts.proofs.SortShrinks.{item_eats}
-use Rattle.floyd_termread_sorts.proofs.RoomLemmas.{sorts_none, sorts_some, run_small}
+use Rattle.floyd_termread_sorts.proofs.RoomLemmas.{sorts_none, sorts_some}
 use Rattle.floyd_termread_sorts.proofs.read_sorts.+sorts.Goals as goal
 
 pub read_sort-returns-then-room-eq0 : goal.read_sort-returns-then-room-eq0
@@ -16,5 +16,5 @@ read_parts-each-smaller t c = (item_eats c.args.room c.args.count c.each.parts).
 pub read_parts-each-preserved : goal.read_parts-each-preserved
 read_parts-each-preserved t c = rw c.in_ok-parts.ensures record {
   turning = gives_next c.each.invariant.turning (item_eats c.args.room c.args.count c.each.parts) (sym c.leads_sort.ensures ∙ c.each-test.true) c.in_ok-item.item c.read_item.new.reader c.in_ok-item.ensures.value;
-  run = run_small c.in_ok-item.item c.each.parts.run c.args.room c.in_ok-item.ensures.room;
+  run = c.in_ok-item.ensures.room;
 }

@@ -16,9 +16,6 @@ decreases-read_parts l = 10 * l.room + 8
 abbrev pub decreases-read_item : goal.decreases-read_item
 decreases-read_item l = 10 * l.room + 6
 
-abbrev pub decreases-read_parenthesised : goal.decreases-read_parenthesised
-decreases-read_parenthesised l = 10 * l.room + 5
-
 abbrev pub invariant-read_parts-each : goal.invariant-read_parts-each
 invariant-read_parts-each l = record {
   turning : Turning wants_more plus_sort (sort_item l.room (sorts l.room) l.count) l.parts l.reader (sort_parts l.room (sorts l.room) l.count l.fn.reader);

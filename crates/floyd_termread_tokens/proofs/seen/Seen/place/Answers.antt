@@ -1,13 +1,6 @@
-use Rattle.std.proofs.Common.{◌≡◌, sym, ◌∙◌, ap}
-use Rattle.std.specs.Prelude.{Some, option_map}
-use Rattle.floyd_lex.specs.Token.{Token, Lexeme}
-use Rattle.floyd_termread_tokens.proofs.SeenLemmas.{seen_token}
+use Rattle.std.proofs.Common.{sym}
+use Rattle.floyd_termread_tokens.proofs.SeenLemmas.{seen_place}
 use Rattle.floyd_termread_tokens.proofs.seen.Seen.place.Goals as goal
 
 pub returns : goal.returns
-returns c =
-    let x = seen_token c.self.inside.bytes.now c.self.inside.tokens.now c.self.inside.at c.self.inside.kind c.self.invariant in
-    rw (← c.self.view_is) (same (sym c.place.ensures ∙ ap (option_map (λ (z : Lexeme). z.place)) x.1) ∙ ap (λ (z : Token). z.place) (sym x.2))
-  where
-    same : {A : Type 0} {a b : A} → Some a ≡ Some b → a ≡ b
-    same e = cc
+returns c = rw (← c.self.view_is) (sym (seen_place c.self.inside.bytes.now c.self.inside.tokens.now c.self.inside.at c.place.result c.place.ensures))
