@@ -41,8 +41,8 @@ pub fn folded_one<L: Ledger>(
     literal_or(alloc, z, head, &kids, steps)
 }
 
-/// The small number that two literals give.
-fn number_of_literals(operator: Operator, a: &Term, b: &Term) -> Option<i128>
+/// The number that an operator gives of two literals, where it is below 2^126 in absolute value.
+pub fn number_of_literals(operator: Operator, a: &Term, b: &Term) -> Option<i128>
     ensures { result ≡ small (of_literals (number_of_two operator) (literal_in_lem a.now) (literal_in_lem b.now)) }
 {
     match (literal_in(a), literal_in(b)) {
@@ -51,8 +51,8 @@ fn number_of_literals(operator: Operator, a: &Term, b: &Term) -> Option<i128>
     }
 }
 
-/// The small number that a literal gives.
-fn number_of_literal(head: &Head, a: &Term) -> Option<i128>
+/// The number that `bnot`, `signed` or `unsigned` gives of a literal, where it is below 2^126 in absolute value.
+pub fn number_of_literal(head: &Head, a: &Term) -> Option<i128>
     ensures { result ≡ small (option_and_then (number_of_one head.now) (literal_in_lem a.now)) }
 {
     match literal_in(a) {

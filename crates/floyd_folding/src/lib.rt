@@ -6,5 +6,5 @@ mod folding;
 mod numbers;
 mod writing;
 
-pub use folding::{folded, folded_one};
+pub use folding::{folded, folded_one, number_of_literal, number_of_literals};
 pub use writing::{too_large, written};

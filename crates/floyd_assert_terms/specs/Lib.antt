@@ -1,0 +1,3 @@
+-- Definitions that contracts cite.
+pub mod FillClauses
+pub mod Mapped

@@ -1,0 +1,15 @@
+pub mod AddressMeanings
+pub mod Blanks
+pub mod ItemMeanings
+pub mod Meanings
+pub mod PartMeanings
+pub mod PathMeanings
+pub mod PlaceMeanings
+pub mod SortedAddresses
+pub mod SortedItems
+pub mod SortedUpdates
+pub mod TermSorts
+pub mod Tests
+pub mod TypeSorts
+pub mod Untyped
+pub mod UpdateMeanings

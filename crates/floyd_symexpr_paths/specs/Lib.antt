@@ -1,0 +1,5 @@
+-- Definitions that contracts cite.
+pub mod Bounds
+pub mod Locating
+pub mod Places
+pub mod Same
