@@ -56,7 +56,7 @@ one_found {A} x a b e = by (bytes_eq x main) refl e
     by true i q = ((bytes_eq-Decides x main).0 i, same_Some a b q)
     by false i q = absurd cc
 
-main_is : linked_function a_program main ≡ Some main_function
+pub main_is : linked_function a_program main ≡ Some main_function
 main_is = ap (λ t. cond t (Some main_function) None) ((bytes_eq-Decides main main).1 refl)
 
 spec_links : (f : Ident) (spec : Funspec) → lookup (bytes_eq f) its_specs.functions ≡ Some spec → SpecLinks a_program its_module f spec

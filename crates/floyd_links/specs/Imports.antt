@@ -14,6 +14,7 @@ use Rattle.floyd_assert_trees.specs.declared.sep.Sep.{Sep}
 use Rattle.floyd_assert_trees.specs.declared.spec.Funspec.{Funspec}
 use Rattle.floyd_assert_trees.specs.declared.spec.Postcondition.{Postcondition}
 use Rattle.floyd_assert_changes.specs.Changed.{assertion_after, assertion_fits, below_existentials, body_after, body_binds, body_mentions, has_name, part_after}
+use Rattle.floyd_assert_laws.specs.Free.{option_mentions}
 use Rattle.floyd_goal_trees.specs.declared.context.Mark.TheVariants as m
 use Rattle.floyd_goal_trees.specs.declared.goal.Entail.{Entail}
 use Rattle.floyd_goal_forms.specs.Terms.{names_with}
@@ -60,19 +61,28 @@ with_value post = record { existentials = post.existentials; props = post.props;
 abbrev pub is_among : List (List ℕ) → List ℕ → Bool
 is_among names x = list_any (bytes_eq x) names
 
--- x, or x'k where x is one of these names: with the least k from 1 that is none of them, is neither free nor bound in what
+-- x, or x'k where x is to be avoided: with the least k from 1 that is not to be avoided, is neither free nor bound in what
 -- the binder covers, and is no other of its list
-abbrev pub fresh_name : List (List ℕ) → Assertion → List Binder → List ℕ → List ℕ
-fresh_name names a others x =
-    if is_among names x then unmarked_from (λ name. is_among names name || (body_mentions a name || (body_binds a name || has_name name others))) x most_marks 1 else x
+abbrev pub fresh_name : (List ℕ → Bool) → Assertion → List Binder → List ℕ → List ℕ
+fresh_name avoided a others x =
+    if avoided x then unmarked_from (λ name. avoided name || (body_mentions a name || (body_binds a name || has_name name others))) x most_marks 1 else x
 
-abbrev pub fresh_from : List (List ℕ) → Assertion → List Binder → List Binder → List Binder
-fresh_from names a done [] = done
-fresh_from names a done (b ∷ more) = fresh_from names a (done ++ record { name = fresh_name names a (done ++ more) b.name; sort = b.sort } ∷ []) more
+abbrev pub fresh_from : (List ℕ → Bool) → Assertion → List Binder → List Binder → List Binder
+fresh_from avoided a done [] = done
+fresh_from avoided a done (b ∷ more) = fresh_from avoided a (done ++ record { name = fresh_name avoided a (done ++ more) b.name; sort = b.sort } ∷ []) more
 
--- with existentials that are none of these names
-abbrev pub freed : List (List ℕ) → Assertion → Assertion
-freed names a = let new = fresh_from names a [] a.existentials in body_after (below_existentials [] a.existentials new) a new
+-- with existentials that are not to be avoided
+abbrev pub freed : (List ℕ → Bool) → Assertion → Assertion
+freed avoided a = let new = fresh_from avoided a [] a.existentials in body_after (below_existentials [] a.existentials new) a new
+
+-- The function's own postcondition, at these terms: its existentials are no names of the import.
+abbrev pub own_post : Funspec → Funspec → List Plain → Assertion
+own_post import own terms =
+    freed (is_among (names_with (import.with ++ import.post.existentials))) (assertion_after (puts (with_terms own.with terms)) (with_value own.post))
+
+-- The import's postcondition: its existentials are not free in the own term of RETURN, which is to stand below them.
+abbrev pub import_post : Funspec → Option Plain → Assertion
+import_post import value = freed (option_mentions value) (with_value import.post)
 
 abbrev pub value_equation : Option Plain → Option Plain → List PlainFormula
 value_equation (Some a) (Some b) = equation a b ∷ []
@@ -81,11 +91,12 @@ value_equation a b = []
 -- The function's own postcondition, at these terms, and the parts beside it give the import's.
 abbrev pub second_goal : Funspec → Funspec → List Plain → List Sep → Entail
 second_goal import own terms frame =
-    let post = freed (names_with (import.with ++ import.post.existentials)) (assertion_after (puts (with_terms own.with terms)) (with_value own.post)) in
+    let post = own_post import own terms in
+    let target = import_post import (value_in post.locals) in
     record {
       context = record { variables = import.with ++ post.existentials; hypotheses = import.pre.props ++ post.props; mark = m.Plain };
       source = plain_assertion [] (post.parts ++ frame);
-      target = record { existentials = import.post.existentials; props = import.post.props ++ value_equation (value_in post.locals) import.post.value; locals = []; parts = import.post.parts };
+      target = record { existentials = target.existentials; props = target.props ++ value_equation (value_in post.locals) (value_in target.locals); locals = []; parts = target.parts };
     }
 
 -- no term or formula of it is beyond the limits

@@ -21,13 +21,13 @@ use Rattle.floyd_links.specs.Links.{IsBodyOf}
 use Rattle.floyd_start_laws.specs.Laws.{Enters}
 use Rattle.floyd_start_laws.proofs.Entering.{distinct_back, distinct_front}
 
-types_count : (ts : List SizedType) (cs : List CType) → TypesAre ts cs → length ts ≡ length cs
+pub types_count : (ts : List SizedType) (cs : List CType) → TypesAre ts cs → length ts ≡ length cs
 types_count [] [] h = refl
 types_count [] (c ∷ cs) h = absurd h
 types_count (t ∷ ts) [] h = absurd h
 types_count (t ∷ ts) (c ∷ cs) h = ap (λ n. suc n) (types_count ts cs h.1)
 
-terms_count : (defs : Defs) (scope : Scope) (sorts : List Sort) (ts : List Plain) → TermsFit defs scope sorts ts → length ts ≡ length sorts
+pub terms_count : (defs : Defs) (scope : Scope) (sorts : List Sort) (ts : List Plain) → TermsFit defs scope sorts ts → length ts ≡ length sorts
 terms_count defs scope [] [] h = refl
 terms_count defs scope [] (t ∷ ts) h = absurd h
 terms_count defs scope (s ∷ sorts) [] h = absurd h

@@ -19,7 +19,7 @@ use Rattle.floyd_goal_meaning.specs.Links.{AreApart, Has}
 use Rattle.floyd_goal_meaning.specs.Programs.{Places, setting}
 use Rattle.floyd_links.specs.Links.{Links}
 use Rattle.floyd_start_laws.proofs.LemmaStarts.{lemma_true}
-use Rattle.floyd_program_soundness.specs.Proofs.{AreProofs, IsProof, IsProvedBy, Kind, OfLemma, Proof, StartsWith, with_proved}
+use Rattle.floyd_program_soundness.specs.Proofs.{AreProofs, IsImportProved, IsProof, IsProvedBy, Kind, OfImport, OfLemma, Proof, StartsWith, with_proved}
 use Rattle.floyd_program_soundness.proofs.Lists.{each_and, each_named, each_nth, module_at, one_lemma}
 
 -- lemmas that are proved are no part of what a program must have
@@ -57,9 +57,9 @@ module _ (L : Linked) (links : Links L) (place : Places) (apart : AreApart L [] 
   pub record Done (p : Proof) : Type 0 where
     pub module' : Module
     pub at : nth L.modules p.number ≡ Some module'
-    pub goal : Goal
-    pub starts : StartsWith L module' p.kind p.name goal
-    pub holds : (n : ℕ) → HoldsFor (with_proved module'.defs p.before) module'.specs n goal
+    pub goals : List Goal
+    pub starts : StartsWith L module' p.kind p.name goals
+    pub holds : (n : ℕ) → AllByRecursion (HoldsFor (with_proved module'.defs p.before) module'.specs n) goals
     pub lemmas : LemmasAreTrue S (with_proved module'.defs p.before)
 
   pub record IsTrueLemma (x : List ℕ) : Type 0 where
@@ -86,7 +86,7 @@ module _ (L : Linked) (links : Links L) (place : Places) (apart : AreApart L [] 
   done_true : (p : Proof) → Done p → TrueIfLemma p
   done_true p d e =
       let m = d.module' in
-      let s : StartsWith L m OfLemma p.name d.goal = subst (λ k. StartsWith L m k p.name d.goal) e d.starts in
+      let s : StartsWith L m OfLemma p.name d.goals = subst (λ k. StartsWith L m k p.name d.goals) e d.starts in
       let links' = module_at L 0 L.modules p.number m links.modules d.at in
       let fit : LemmaFits m.defs m.specs s.0 = each_named (LemmaFits m.defs m.specs) m.defs.lemmas p.name s.0 links'.1.items.lemmas s.1 in
       record {
@@ -97,14 +97,14 @@ module _ (L : Linked) (links : Links L) (place : Places) (apart : AreApart L [] 
         is = s.1;
         holds = lemma_true L [] place (with_proved m.defs p.before) m.specs 0 p.name s.0
             (has_proved L m.defs m.specs p.before (each_nth (λ (a : Module). Has L a.defs a.specs) L.modules p.number m has d.at)) apart d.lemmas fit.with fit.none
-            (subst (HoldsFor (with_proved m.defs p.before) m.specs 0) s.2 (d.holds 0));
+            (subst (AllByRecursion (HoldsFor (with_proved m.defs p.before) m.specs 0)) s.2 (d.holds 0)).0;
       }
 
   done_one : (earlier : List Proof) (p : Proof) → AllByRecursion TrueIfLemma earlier → IsProof L earlier p → Done p
   done_one earlier p h k = record {
     module' = k.module';
     at = k.at;
-    goal = k.goal;
+    goals = k.goals;
     starts = k.starts;
     holds = k.holds;
     lemmas = lemmas_true earlier p.before p.number k.module' k.at h k.before;
@@ -120,3 +120,9 @@ module _ (L : Linked) (links : Links L) (place : Places) (apart : AreApart L [] 
   done_among [] kind x h k = absurd k
   done_among (p ∷ proofs) kind x h (inl k) = (p, h.0, k.0, k.1)
   done_among (p ∷ proofs) kind x h (inr k) = done_among proofs kind x h.1 k
+
+  -- the proof of an import
+  pub import_among : (proofs : List Proof) (number : ℕ) (x : List ℕ) → AllByRecursion Done proofs → IsImportProved proofs number x → (p : Proof) × Done p × (p.kind ≡ OfImport) × (p.number ≡ number) × (p.name ≡ x)
+  import_among [] number x h k = absurd k
+  import_among (p ∷ proofs) number x h (inl k) = (p, h.0, k.0, k.1, k.2)
+  import_among (p ∷ proofs) number x h (inr k) = import_among proofs number x h.1 k

@@ -22,42 +22,36 @@ use Rattle.floyd_assert_meaning.specs.Specifications.{Post, Pre}
 use Rattle.floyd_assert_meaning.proofs.Sames.{same_post, same_pre}
 use Rattle.floyd_goal_forms.specs.Items.{FunspecFits}
 use Rattle.floyd_goal_forms.specs.Starts.{function_start}
-use Rattle.floyd_goal_meaning.specs.declared.linked.ImportBy.{ImportBy}
 use Rattle.floyd_goal_meaning.specs.declared.linked.Linked.{Linked}
 use Rattle.floyd_goal_meaning.specs.declared.linked.LinkedFunction.{LinkedFunction}
 use Rattle.floyd_goal_meaning.specs.declared.linked.Module.{Module}
 use Rattle.floyd_goal_meaning.specs.GoalHolds.{HoldsFor, LemmasAreTrue}
-use Rattle.floyd_goal_meaning.specs.Laws.{SeesOwnAlone}
 use Rattle.floyd_goal_meaning.specs.Links.{AreApart, Has, IsOfFunction}
 use Rattle.floyd_goal_meaning.specs.Programs.{Places, def_of, function_block, int, linked_function, main, program, setting}
 use Rattle.floyd_goal_meaning.specs.Worlds.{Sound, Use, sight, world}
-use Rattle.floyd_goal_meaning.proofs.Sights.{given}
 use Rattle.floyd_links.specs.Laws.{BodiesAreDeclared}
-use Rattle.floyd_links.specs.Links.{FunctionLinks, IsBodyOf, IsImportBy, Links, ModuleLinks}
+use Rattle.floyd_links.specs.Links.{FunctionLinks, ImportsBy, IsBodyOf, IsImportBy, Links, ModuleLinks}
 use Rattle.floyd_links.proofs.FunsBare.{funs_bare}
 use Rattle.floyd_links.proofs.Having.{each_found, links_have, name_found, own_of, rules_keep}
 use Rattle.floyd_links.proofs.PredsBare.{preds_bare}
 use Rattle.floyd_goal_meaning.specs.Programs as programs
 use Rattle.floyd_start_laws.proofs.BodyStarts.{body_starts, no_local}
+use Rattle.floyd_import_laws.specs.Laws.{Follows}
 use Rattle.floyd_program_soundness.specs.Laws.{ProvedProgramsAreSound}
 use Rattle.floyd_program_soundness.specs.Proofs as p
 use Rattle.floyd_program_soundness.proofs.Bodies.{enters}
 use Rattle.floyd_program_soundness.proofs.Functions.{has_body, is_named, named_is, no_way, none_unless_linked, one_way, own_alone}
+use Rattle.floyd_program_soundness.proofs.Imported.{import_gives, imports_by}
 use Rattle.floyd_program_soundness.proofs.LemmasProved.{Done, all_done, done_among, has_proved}
 use Rattle.floyd_program_soundness.proofs.Lists.{each_named, each_nth, module_at}
+use Rattle.floyd_program_soundness.proofs.Seen.{SeesWhatFollows, given, same_follows}
 
 -- each function with a body has a specification of its own
 declared : (functions : List LinkedFunction) (proofs : List p.Proof) → AllByRecursion (λ (f : LinkedFunction). (d : Defined) → f.body ≡ Some d → (is_some f.own ≡ true) × p.IsProvedBy proofs p.OfBody f.name) functions → AllByRecursion (λ (f : LinkedFunction). (d : Defined) → f.body ≡ Some d → is_some f.own ≡ true) functions
 declared [] proofs h = tt
 declared (f ∷ functions) proofs h = (λ d e. (h.0 d e).0, declared functions proofs h.1)
 
-no_import : (imports : List ImportBy) (i : ℕ) (a : ImportBy) → imports ≡ [] → nth imports i ≡ Some a → ⊥
-no_import imports i a e k = none_there (sym (ap (λ xs. nth xs i) e) ∙ k)
-  where
-    none_there : nth [] i ≡ Some a → ⊥
-    none_there q = cc
-
-module _ (L : Linked) (proofs : List p.Proof) (links : Links L) (alone : p.NoImportsBy L) (are : p.AreProofs L [] proofs) (bodies : p.AreBodiesProved L proofs) where
+module _ (L : Linked) (proofs : List p.Proof) (links : Links L) (small : p.AreImportsSmall L) (are : p.AreProofs L [] proofs) (bodies : p.AreBodiesProved L proofs) (imported : p.AreImportsProved proofs 0 L.modules) where
   named_all : BodiesAreDeclared L
   named_all = declared L.functions proofs bodies
 
@@ -70,22 +64,15 @@ module _ (L : Linked) (proofs : List p.Proof) (links : Links L) (alone : p.NoImp
     preds = λ name ds o e. preds_bare L links name ds o e;
   }
 
-  -- what a module sees is the functions' own
-  own_of_spec : (m : Module) (i k : ℕ) → nth L.modules i ≡ Some m → ModuleLinks L k m → (f : Ident) (g : LinkedFunction) (spec : Funspec) → lookup (bytes_eq f) m.specs.functions ≡ Some spec → linked_function L f ≡ Some g → (own : Funspec) × (g.own ≡ Some own) × SameFunspec own spec
-  own_of_spec m i k at h f g spec e is =
+  -- a specification that is not that of an import is the function's own
+  own_of_spec : (m : Module) (k : ℕ) → ModuleLinks L k m → (f : Ident) (g : LinkedFunction) (spec : Funspec) → (ImportsBy m f → ⊥) → lookup (bytes_eq f) m.specs.functions ≡ Some spec → linked_function L f ≡ Some g → (own : Funspec) × (g.own ≡ Some own) × SameFunspec own spec
+  own_of_spec m k h f g spec none e is =
       let o = own_of L named_all m f spec (h.specs f spec e) g is in
       (o.0, o.1, by o.0 o.2)
     where
       by : (own : Funspec) → SameFunspec own spec ⊎ IsImportBy m f spec own → SameFunspec own spec
       by own (inl same) = same
-      by own (inr import) = absurd (no_import m.imports import.among.0 import.import (each_nth (λ (a : Module). a.imports ≡ []) L.modules i m alone at) import.among.1)
-
-  sees_own : (m : Module) (i : ℕ) → nth L.modules i ≡ Some m → SeesOwnAlone L m.specs
-  sees_own m i at f spec e =
-      let h = module_at L 0 L.modules i m links.modules at in
-      let s = h.1.specs f spec e in
-      let own = own_of_spec m i h.0 at h.1 f s.function spec e s.is in
-      (s.function, own.0, s.is, own.1, own.2)
+      by own (inr b) = absurd (none (imports_by m f spec own b))
 
   module _ (place : Places) (apart : AreApart L [] place) where
     abbrev W : World
@@ -97,6 +84,18 @@ module _ (L : Linked) (proofs : List p.Proof) (links : Links L) (alone : p.NoImp
     done : AllByRecursion (Done L links place apart has_each) proofs
     done = all_done L links place apart has_each [] proofs tt are
 
+    -- what a module sees follows from what the functions ask and give of their own
+    sees_one : (m : Module) (i : ℕ) → nth L.modules i ≡ Some m → (f : Ident) (spec : Funspec) (g : LinkedFunction) (own : Funspec) → lookup (bytes_eq f) m.specs.functions ≡ Some spec → linked_function L f ≡ Some g → g.own ≡ Some own → SameFunspec own spec ⊎ IsImportBy m f spec own → Follows S spec own
+    sees_one m i at f spec g own e is has_own (inl same) = same_follows S spec own same
+    sees_one m i at f spec g own e is has_own (inr b) = import_gives L links small place apart has_each proofs imported done m i at f spec g own e is has_own b
+
+    sees : (m : Module) (i : ℕ) → nth L.modules i ≡ Some m → SeesWhatFollows L place m.specs
+    sees m i at f spec e =
+        let h = module_at L 0 L.modules i m links.modules at in
+        let s = h.1.specs f spec e in
+        let o = own_of L named_all m f spec s s.function s.is in
+        (s.function, o.0, s.is, o.1, sees_one m i at f spec s.function o.0 e s.is o.1 o.2)
+
     -- a body, proved in one of the modules
     record Proved (f : Ident) (g : LinkedFunction) (d : Defined) : Type 0 where
       pub module' : Module
@@ -105,16 +104,17 @@ module _ (L : Linked) (proofs : List p.Proof) (links : Links L) (alone : p.NoImp
       pub before : List (List ℕ)
       pub spec : Funspec
       pub seen : lookup (bytes_eq f) module'.specs.functions ≡ Some spec
+      pub declared : ImportsBy module' f → ⊥
       pub lemmas : LemmasAreTrue S (p.with_proved module'.defs before)
       pub holds : (n : ℕ) → HoldsFor (p.with_proved module'.defs before) module'.specs n (function_start L.structs spec d)
 
     proved_by : (f : Ident) (g : LinkedFunction) (d : Defined) → linked_function L f ≡ Some g → g.body ≡ Some d → (q : p.Proof) → Done L links place apart has_each q → q.kind ≡ p.OfBody → q.name ≡ f → Proved f g d
     proved_by f g d is body q done kind name =
         let m = done.module' in
-        let s : p.StartsWith L m p.OfBody f done.goal = subst (λ k. p.StartsWith L m k f done.goal) kind (subst (λ x. p.StartsWith L m q.kind x done.goal) name done.starts) in
+        let s : p.StartsWith L m p.OfBody f done.goals = subst (λ k. p.StartsWith L m k f done.goals) kind (subst (λ x. p.StartsWith L m q.kind x done.goals) name done.starts) in
         let same : s.0.function ≡ g = same_Some s.0.function g (sym s.0.is ∙ is) in
         let one : s.0.body ≡ d = same_Some s.0.body d (sym s.0.has_body ∙ ap (λ (x : LinkedFunction). x.body) same ∙ body) in
-        let goal : done.goal ≡ function_start L.structs s.0.spec d = s.1 ∙ ap (function_start L.structs s.0.spec) one in
+        let goals : done.goals ≡ function_start L.structs s.0.spec d ∷ [] = s.1 ∙ ap (λ b. function_start L.structs s.0.spec b ∷ []) one in
         record {
           module' = m;
           number = q.number;
@@ -122,8 +122,9 @@ module _ (L : Linked) (proofs : List p.Proof) (links : Links L) (alone : p.NoImp
           before = q.before;
           spec = s.0.spec;
           seen = s.0.seen;
+          declared = s.0.declared;
           lemmas = done.lemmas;
-          holds = λ n. subst (HoldsFor (p.with_proved m.defs q.before) m.specs n) goal (done.holds n);
+          holds = λ n. (subst (AllByRecursion (HoldsFor (p.with_proved m.defs q.before) m.specs n)) goals (done.holds n)).0;
         }
 
     proved : (f : Ident) (g : LinkedFunction) (d : Defined) → linked_function L f ≡ Some g → g.body ≡ Some d → Proved f g d
@@ -145,7 +146,7 @@ module _ (L : Linked) (proofs : List p.Proof) (links : Links L) (alone : p.NoImp
         let l = module_at L 0 L.modules q.number m links.modules q.at in
         let s = l.1.specs f q.spec q.seen in
         let of_g : s.function ≡ g = same_Some s.function g (sym s.is ∙ is) in
-        let o = own_of_spec m q.number l.0 q.at l.1 f g q.spec q.seen is in
+        let o = own_of_spec m l.0 l.1 f g q.spec q.declared q.seen is in
         let alone' = own_alone L f g o.0 is o.1 in
         let fit : FunspecFits m.defs m.specs q.spec = each_named (FunspecFits m.defs m.specs) m.specs.functions f q.spec l.1.items.functions q.seen in
         let b : IsBodyOf L g d = each_found L (FunctionLinks L) L.functions f g links.functions is d body in
@@ -167,7 +168,7 @@ module _ (L : Linked) (proofs : List p.Proof) (links : Links L) (alone : p.NoImp
         let q = proved f r.function body.body r.is body.is in
         record {
           calls = sight L [] place q.module'.specs;
-          given = given L [] place q.module'.specs (sees_own q.module' q.number q.at);
+          given = given L place q.module'.specs (sees q.module' q.number q.at);
           body = λ n. subst (λ z. BodyHolds W (sight L [] place q.module'.specs) f z n) body.same (body_keeps f r.function body.body r.is body.is q n);
         }
 
@@ -192,4 +193,4 @@ module _ (L : Linked) (proofs : List p.Proof) (links : Links L) (alone : p.NoImp
   is_sound = λ place m start n answers lawful. sound (world L [] place) main (all_hold place start.distinct) (main_ends place) m start n answers lawful
 
 pub proved_sound : ProvedProgramsAreSound
-proved_sound L proofs links alone are bodies = is_sound L proofs links alone are bodies
+proved_sound L proofs links small are bodies imported = is_sound L proofs links small are bodies imported

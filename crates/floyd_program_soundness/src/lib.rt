@@ -4,4 +4,4 @@
 
 mod laws;
 
-pub use laws::proved_programs_are_sound;
+pub use laws::{a_program_is_proved, proved_programs_are_sound};

@@ -14,11 +14,13 @@ use Rattle.floyd_goal_trees.specs.declared.context.Mark.TheVariants as m
 use Rattle.floyd_goal_trees.specs.declared.goal.Goal.{Goal}
 use Rattle.floyd_goal_trees.specs.declared.goal.Goal.TheVariants as g
 use Rattle.floyd_goal_trees.specs.declared.goal.Pure.{Pure}
+use Rattle.floyd_goal_forms.specs.Goals.{IsWellFormed}
 use Rattle.floyd_goal_formulas.specs.Fits.{Fits}
 use Rattle.floyd_goal_truth.specs.Scopes.{AllFit, scope_of}
 use Rattle.floyd_goal_meaning.specs.GoalHolds.{HoldsFor}
 use Rattle.floyd_pure_formulas.specs.Holds.{ArgsFit}
-use Rattle.floyd_pure_formulas.specs.Rows.{Row}
+use Rattle.floyd_pure_formulas.specs.HypothesisCases.{HypothesisCases}
+use Rattle.floyd_pure_formulas.specs.Rows.{Row, WhenNamed}
 
 -- A goal of any kind, whose hypotheses and what the command is given are well formed, holds for n steps where the goals of
 -- the row do.
@@ -48,3 +50,14 @@ IsSoundOnPure Row =
     (defs : Defs) (specs : SpecTable) (n : ℕ) (pure : Pure) (args : Args) (goals : List Goal) →
     PureFits defs pure → ArgsFit (value_defs defs) pure.context args → Row (g.Pure pure) args (Ok goals) →
     AllByRecursion (HoldsFor defs specs n) goals → HoldsFor defs specs n (g.Pure pure)
+
+-- so of a goal of any kind that is well formed as a whole
+abbrev pub IsSoundOnWellFormed : Row → Type 0
+IsSoundOnWellFormed Row =
+    (defs : Defs) (specs : SpecTable) (n : ℕ) (goal : Goal) (args : Args) (goals : List Goal) →
+    IsWellFormed defs specs goal → ArgsFit (value_defs defs) (context_of goal) args → Row goal args (Ok goals) →
+    AllByRecursion (HoldsFor defs specs n) goals → HoldsFor defs specs n goal
+
+-- `destruct` of a hypothesis
+abbrev pub HypothesisCasesRow : Row
+HypothesisCasesRow goal args answer = WhenNamed goal (HypothesisCases goal args) answer

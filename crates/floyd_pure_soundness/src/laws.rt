@@ -10,7 +10,8 @@ ghost use Rattle.floyd_pure_quantifiers.specs.Intro.{IntroRow};
 ghost use Rattle.floyd_pure_quantifiers.specs.Specialize.{SpecializeRow};
 ghost use Rattle.floyd_pure_quantifiers.specs.Split.{SplitRow};
 ghost use Rattle.floyd_pure_soundness.specs.Adding as adding;
-ghost use Rattle.floyd_pure_soundness.specs.Rows.{IsSound, IsSoundOnPure};
+ghost use Rattle.floyd_pure_laws.specs.ByLaw.{LawRow};
+ghost use Rattle.floyd_pure_soundness.specs.Rows.{HypothesisCasesRow, IsSound, IsSoundOnPure, IsSoundOnWellFormed};
 
 /// A goal holds where it does with hypotheses more, and with what they follow from.
 pub fn adding_is_sound()
@@ -65,6 +66,17 @@ pub fn specialize_is_sound()
 /// A goal of any kind holds where it does with the equations of the arguments of equal constructors.
 pub fn inject_is_sound()
     ensures { IsSound InjectRow }
+{}
+
+/// A goal of any kind holds where the premises of the law are proved, and the goal holds with its conclusion.
+pub fn law_is_sound()
+    ensures { IsSound LawRow }
+{}
+
+/// A goal of any kind holds where it does in each case of a hypothesis: with both formulas of an `and`, with each of an
+/// `or`, and with the formula of an `exists` for a new variable; and in any case where the hypothesis is `False`.
+pub fn hypothesis_cases_are_sound()
+    ensures { IsSoundOnWellFormed HypothesisCasesRow }
 {}
 
 /// A Pure goal holds where that of an instance does.
