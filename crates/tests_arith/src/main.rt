@@ -1,17 +1,15 @@
-//! Rows of tables about linear terms and certificates, as the files of `data/` have them: each row says what a call answers. Rows that
-//! answer otherwise are printed, and how many agree.
+//! Rows of tables about linear terms and certificates, as the files of `data/` have them: each row says what a call answers.
+//! Rows that answer otherwise are printed, and how many agree.
 #![tactic(auto)]
 
 mod rows;
-mod terms;
-mod trees;
 
 use rows::agrees;
 use std::alloc::Global;
 use std::marker::Brand;
 use std::sync::ledger::Blank;
 use std::{fs, io};
-use trees::{Stop, trees_of};
+use tests_terms::{Stop, trees_of};
 
 /// Whether a line's row answers as it says. A line without a row says nothing.
 fn judge(alloc: Global, line: &str) -> Result<Option<bool>, Stop> {

@@ -1,13 +1,12 @@
 ghost use Rattle.std.specs.Prelude.{◌≡◌, ◌<◌};
 
-use crate::terms::{DEPTH, formula_of, term_of};
-use crate::trees::{Stop, Tree, part};
 use floyd_arith::{Linear, check_certificate, linear};
 use floyd_text::{RuleStop, Shown, Steps};
-use floyd_tree::{FormulaList, Weight, WeightList, equal};
+use floyd_tree::{Weight, WeightList, equal};
 use sqlite_items::Items;
 use std::alloc::Global;
 use std::sync::ledger::{Blank, Ledger};
+use tests_terms::{DEPTH, Stop, Tree, formula_of, formulas_of, part, term_of};
 
 /// Whether a refusal is the answer that the row has: its code, and the number of the hypothesis where it shows one.
 fn is_refusal(stop: &RuleStop, answer: &[Tree]) -> Result<bool, Stop> {
@@ -57,18 +56,6 @@ fn linear_row<L: Ledger>(alloc: Global, row: &[Tree], steps: &mut Steps<L>) -> R
     }
 }
 
-fn hypotheses_of<L: Ledger>(
-    alloc: Global,
-    trees: &[Tree],
-    steps: &mut Steps<L>,
-) -> Result<FormulaList, Stop> {
-    let mut all = Items::new(alloc);
-    'trees: for tree in trees {
-        all.push(formula_of(alloc, tree, steps)?)?;
-    }
-    Ok(all)
-}
-
 fn weights_of(alloc: Global, trees: &[Tree]) -> Result<WeightList, Stop> {
     let mut all = Items::new(alloc);
     'pairs: for pair in trees.chunks(2) {
@@ -83,8 +70,8 @@ fn weights_of(alloc: Global, trees: &[Tree]) -> Result<WeightList, Stop> {
 /// `check (HYPOTHESES) TARGET (WEIGHTS) ok`, or its refusal. Each weight is a number of a hypothesis, 0 for the negated
 /// target, and the weight.
 fn check_row<L: Ledger>(alloc: Global, row: &[Tree], steps: &mut Steps<L>) -> Result<bool, Stop> {
-    let hyps = hypotheses_of(alloc, part(row, 1)?.parts(), steps)?;
-    let target = formula_of(alloc, part(row, 2)?, steps)?;
+    let hyps = formulas_of(alloc, part(row, 1)?.parts(), steps)?;
+    let target = formula_of(alloc, part(row, 2)?, DEPTH, steps)?;
     let weights = weights_of(alloc, part(row, 3)?.parts())?;
     let answer = row.get(4..).unwrap_or(&[]);
     match check_certificate(alloc, &hyps, &target, &weights) {

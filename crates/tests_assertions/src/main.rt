@@ -2,7 +2,6 @@
 //! answers. Rows that answer otherwise are printed, and how many agree.
 #![tactic(auto)]
 
-mod parts;
 mod rows;
 
 use rows::agrees;

@@ -1,10 +1,10 @@
 ghost use Rattle.std.specs.Prelude.{◌≡◌, ◌<◌};
 
-use crate::parts::{assertion_of, part_of, parts_of};
 use floyd_assert::{SepList, assertion_size, equal_formula, equal_part, remove_parts};
 use floyd_text::{No, RuleStop, Shown, Steps};
 use std::alloc::Global;
 use std::sync::ledger::{Blank, Ledger};
+use tests_parts::{assertion_of, part_of, parts_of};
 use tests_terms::{DEPTH, Stop, Tree, formula_of, part, says};
 
 /// `same FORMULA FORMULA yes`, or `no`.

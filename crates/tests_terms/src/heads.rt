@@ -1,6 +1,6 @@
 use crate::trees::{Stop, Tree, part, text};
 use floyd_int::IntKind;
-use floyd_text::Shared;
+use floyd_text::{Name, Shared};
 use floyd_tree::{
     FormulaHead, Head, Operator, Shape, Sort, SortList, StepShape, StepShapeList, Width,
 };
@@ -192,14 +192,35 @@ fn sorts_of(alloc: Global, trees: &[Tree]) -> Result<SortList, Stop> {
     Ok(all)
 }
 
-/// `void`, `int`, a struct's tag, `(ptr T)`, `(array T)`, or `(fn T)`, a function without parameters.
+/// The kind of integers of that word.
+fn kind_of(word: &str) -> Option<IntKind> {
+    match word {
+        "int" => Some(IntKind::I32),
+        "i8" => Some(IntKind::I8),
+        "u8" => Some(IntKind::U8),
+        "i16" => Some(IntKind::I16),
+        "u16" => Some(IntKind::U16),
+        "u32" => Some(IntKind::U32),
+        "i64" => Some(IntKind::I64),
+        "u64" => Some(IntKind::U64),
+        _ => None,
+    }
+}
+
+/// The shape of that word: a kind of integers, void, or the struct with that tag.
+fn bare_shape_of(word: &Name) -> Result<Shape, Stop> {
+    match kind_of(text(word)) {
+        Some(kind) => Ok(Shape::Int(kind)),
+        None if text(word) == "void" => Ok(Shape::Void),
+        None => Ok(Shape::Struct(word.share()?)),
+    }
+}
+
+/// `void`, `int`, the sign and bits of another kind as `u8`, a struct's tag, `(ptr T)`, `(array T)`, or `(fn T)`, a function
+/// without parameters.
 pub fn shape_of(alloc: Global, tree: &Tree) -> Result<Shape, Stop> {
     match tree {
-        Tree::Word(word) => match text(word) {
-            "void" => Ok(Shape::Void),
-            "int" => Ok(Shape::Int(IntKind::I32)),
-            _ => Ok(Shape::Struct(word.share()?)),
-        },
+        Tree::Word(word) => bare_shape_of(word),
         Tree::Group(parts) => match parts.as_slice() {
             [of, a] => shape_over(alloc, of.word(), shape_of(alloc, a)?),
             _ => Err(Stop::Unreadable),
@@ -260,7 +281,7 @@ pub fn head_of(alloc: Global, word: &str, trees: &[Tree]) -> Result<OwnHead, Sto
     }
     let first = part(trees, 0)?;
     match word {
-        "Literal" => Ok((Head::Literal(i128::from(first.number()?)), 1)),
+        "Literal" => Ok((Head::Literal(first.number()?), 1)),
         "Gv" => Ok((Head::Gv(first.name()?), 1)),
         "Lv" => Ok((Head::Lv(first.name()?), 1)),
         "Nil" => Ok((Head::Nil(sort_of(alloc, first)?), 1)),

@@ -2,7 +2,8 @@ use crate::heads::{formula_head_of, head_of};
 use crate::large::{chain, fresh_tree, full_tree, spine_tree};
 use crate::trees::{Stop, Tree, part, text};
 use floyd_text::Steps;
-use floyd_tree::{Formula, Head, Term, make, make_formula};
+use floyd_tree::{Formula, FormulaList, Head, Term, make, make_formula};
+use sqlite_items::Items;
 use std::alloc::Global;
 use std::sync::ledger::Ledger;
 
@@ -21,7 +22,7 @@ pub fn term_of<L: Ledger>(
     match tree {
         Tree::Word(word) => {
             if let Ok(n) = tree.number() {
-                return Ok(make(alloc, Head::Literal(i128::from(n)), &[], steps)?);
+                return Ok(make(alloc, Head::Literal(n), &[], steps)?);
             }
             let (head, _) = head_of(alloc, text(word), &[])?;
             Ok(make(alloc, head, &[], steps)?)
@@ -148,4 +149,17 @@ fn formula_group<L: Ledger>(
         }
     }
     Ok(make_formula(alloc, head, terms.as_slice(), kids.as_slice(), steps)?)
+}
+
+/// The formula of each tree.
+pub fn formulas_of<L: Ledger>(
+    alloc: Global,
+    trees: &[Tree],
+    steps: &mut Steps<L>,
+) -> Result<FormulaList, Stop> {
+    let mut all = Items::new(alloc);
+    'trees: for tree in trees {
+        all.push(formula_of(alloc, tree, DEPTH, steps)?)?;
+    }
+    Ok(all)
 }

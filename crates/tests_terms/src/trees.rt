@@ -91,8 +91,8 @@ impl Tree {
         }
     }
 
-    pub fn number(&self) -> Result<i64, Stop> {
-        match self.word().parse::<i64>() {
+    pub fn number(&self) -> Result<i128, Stop> {
+        match self.word().parse::<i128>() {
             Ok(n) => Ok(n),
             Err(_) => Err(Stop::Unreadable),
         }

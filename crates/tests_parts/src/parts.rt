@@ -1,13 +1,13 @@
 use floyd_assert::{Assertion, Binder, BinderList, Local, LocalList, Region, Sep, SepList};
 use floyd_text::{Shared, Steps};
-use floyd_tree::{AType, FormulaList, Path, PathStep, has_arrays};
+use floyd_tree::{AType, Path, PathStep, has_arrays};
 use sqlite_items::Items;
 use std::alloc::Global;
 use std::sync::ledger::Ledger;
-use tests_terms::{DEPTH, Stop, Tree, formula_of, part, shape_of, sort_of, term_of, terms_of};
+use tests_terms::{DEPTH, Stop, Tree, formulas_of, part, shape_of, sort_of, term_of, terms_of};
 
 /// `(SHAPE SIZE ..)`, with a size for each array.
-fn type_of<L: Ledger>(alloc: Global, tree: &Tree, steps: &mut Steps<L>) -> Result<AType, Stop> {
+pub fn type_of<L: Ledger>(alloc: Global, tree: &Tree, steps: &mut Steps<L>) -> Result<AType, Stop> {
     let shape = shape_of(alloc, part(tree.parts(), 0)?)?;
     let sizes = terms_of(alloc, tree.parts().get(1..).unwrap_or(&[]), DEPTH, steps)?;
     if !has_arrays(&shape, sizes.len()) {
@@ -25,7 +25,12 @@ fn step_of<L: Ledger>(alloc: Global, tree: &Tree, steps: &mut Steps<L>) -> Resul
     Ok(PathStep::Subscript(term_of(alloc, tree, DEPTH, steps)?))
 }
 
-fn path_of<L: Ledger>(alloc: Global, trees: &[Tree], steps: &mut Steps<L>) -> Result<Path, Stop> {
+/// A step for each tree.
+pub fn path_of<L: Ledger>(
+    alloc: Global,
+    trees: &[Tree],
+    steps: &mut Steps<L>,
+) -> Result<Path, Stop> {
     let mut path = Path::new(alloc);
     'trees: for tree in trees {
         path.push(step_of(alloc, tree, steps)?)?;
@@ -74,6 +79,7 @@ pub fn part_of<L: Ledger>(alloc: Global, tree: &Tree, steps: &mut Steps<L>) -> R
     }
 }
 
+/// The part of each tree.
 pub fn parts_of<L: Ledger>(
     alloc: Global,
     trees: &[Tree],
@@ -86,20 +92,8 @@ pub fn parts_of<L: Ledger>(
     Ok(all)
 }
 
-fn formulas_of<L: Ledger>(
-    alloc: Global,
-    trees: &[Tree],
-    steps: &mut Steps<L>,
-) -> Result<FormulaList, Stop> {
-    let mut all = Items::new(alloc);
-    'trees: for tree in trees {
-        all.push(formula_of(alloc, tree, DEPTH, steps)?)?;
-    }
-    Ok(all)
-}
-
 /// `(NAME SORT)` for each.
-fn binders_of(alloc: Global, trees: &[Tree]) -> Result<BinderList, Stop> {
+pub fn binders_of(alloc: Global, trees: &[Tree]) -> Result<BinderList, Stop> {
     let mut all = Items::new(alloc);
     'trees: for tree in trees {
         let name = part(tree.parts(), 0)?.name()?;
