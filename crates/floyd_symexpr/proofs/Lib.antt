@@ -1,0 +1,4 @@
+pub mod Chains
+pub mod ReadingLemmas
+pub mod TypeLemmas
+pub mod Weights
