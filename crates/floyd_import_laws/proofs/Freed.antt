@@ -1,7 +1,7 @@
 -- An assertion whose existentials get other names says the same.
-use Rattle.std.proofs.Common.{◌≡◌, ℕ, ◌+◌, ◌<◌, ◌^◌, Bool, true, false, ◌||◌, cond, ◌⊎◌, inl, inr, ⊎_elim, List, [], ◌∷◌, ◌++◌, length, map, Option, Some, None, refl, sym, ◌∙◌, ap, subst, arith, true≢false, append_assoc, append-nil}
+use Rattle.std.proofs.Common.{◌≡◌, ℕ, ◌+◌, ◌<◌, ◌^◌, Bool, true, false, ◌||◌, cond, ◌⊎◌, inl, inr, ⊎_elim, List, [], ◌∷◌, ◌++◌, length, Option, Some, None, refl, sym, ◌∙◌, ap, subst, arith, true≢false, append_assoc, append-nil}
 use Rattle.std.specs.Prelude.{if◌then◌else◌, bytes_eq}
-use Rattle.std.specs.List.{AllByRecursion, flat_map, list_any}
+use Rattle.std.specs.List.{flat_map, list_any}
 use Rattle.std.specs.Map.{lookup}
 use Rattle.std.proofs.lemmas.Bool.{or_cases, or_left, or_right}
 use Rattle.std.proofs.lemmas.List.{length-append}
@@ -21,7 +21,7 @@ use Rattle.floyd_truth.specs.Capture.{Becomes, Put, Called, Changes, bound_in_so
 use Rattle.floyd_truth.specs.Replace.{AllSortsAgree, FormulaSortsAgree, FormulasSortsAgree, HasSortOf, SortsAgree, changes_below, replaced}
 use Rattle.floyd_truth.proofs.Fresh.{neither, not_true, weight}
 use Rattle.floyd_truth.proofs.Marks.{Found, finds}
-use Rattle.floyd_truth.proofs.OneTruth.{giving, put}
+use Rattle.floyd_truth.proofs.OneTruth.{put}
 use Rattle.floyd_truth.proofs.Tracks.{IsApart, Ready, Tracks, TracksBy, ready_part}
 use Rattle.floyd_assert_trees.specs.declared.assertion.Assertion.{Assertion}
 use Rattle.floyd_assert_trees.specs.declared.binder.Binder.{Binder}

@@ -1,16 +1,15 @@
 -- An import's specification follows from the function's own where both start goals of its proof hold.
 use Rattle.std.proofs.Common.{◌≡◌, ◌↔◌, ◌⊎◌, inl, inr, ⊎_elim, ℕ, ◌+◌, ◌<◌, ◌≤◌, ◌^◌, Bool, true, false, ◌||◌, cond, List, [], ◌∷◌, ◌++◌, length, map, Option, Some, None, refl, sym, ◌∙◌, ap, subst, arith, true≢false}
-use Rattle.std.specs.Prelude.{bytes_eq, IsSome, is_some}
+use Rattle.std.specs.Prelude.{bytes_eq, is_some}
 use Rattle.std.specs.List.{AllByRecursion, list_any}
 use Rattle.std.specs.Map.{lookup}
-use Rattle.std.proofs.lemmas.Bool.{or_cases, or_left, or_right}
-use Rattle.std.proofs.lemmas.List.{length-append, length-map, map-append}
-use Rattle.std.proofs.lemmas.List.Folds.{list_any-append}
+use Rattle.std.proofs.lemmas.Bool.{or_cases, or_left}
+use Rattle.std.proofs.lemmas.List.{length-append, length-map}
 use Rattle.floyd_int.specs.declared.kinds.Value.{Value}
 use Rattle.floyd_int.specs.declared.kinds.Value.TheVariants.{Vundef}
 use Rattle.floyd_clight_heap.specs.Heaplet.{Heaplet, Joins}
 use Rattle.floyd_tree_sorts.specs.declared.shape.Shape.{Shape, Void}
-use Rattle.floyd_tree_sorts.specs.declared.sorts.Sort.{Sort, Val}
+use Rattle.floyd_tree_sorts.specs.declared.sorts.Sort.{Val}
 use Rattle.floyd_tree.specs.Formulas.{PlainFormula, formulas, formulas_mention}
 use Rattle.floyd_tree.specs.Plain.{Plain, mentions, mentions_in, plains, size}
 use Rattle.floyd_tree_values.specs.BuiltIns.{Env}
@@ -23,7 +22,7 @@ use Rattle.floyd_tree_values.proofs.AllFuns.{a_value}
 use Rattle.floyd_truth.specs.Capture.{Changes, Put}
 use Rattle.floyd_truth.specs.Laws.{Changed, nodes}
 use Rattle.floyd_truth.specs.Replace.{HasSortOf, puts, replaced, replaced_formula}
-use Rattle.floyd_truth.specs.Truth.{AllTrue, Truth}
+use Rattle.floyd_truth.specs.Truth.{AllTrue}
 use Rattle.floyd_truth.proofs.Fresh.{not_true, weight}
 use Rattle.floyd_truth.proofs.InChanged.{all_after, ready_puts}
 use Rattle.floyd_truth.proofs.OneTruth.{giving}
@@ -34,14 +33,12 @@ use Rattle.floyd_assert_trees.specs.declared.binder.Binder.{Binder}
 use Rattle.floyd_assert_trees.specs.declared.items.Defs.{Defs}
 use Rattle.floyd_assert_trees.specs.declared.sep.Sep.{Sep}
 use Rattle.floyd_assert_trees.specs.declared.spec.Funspec.{Funspec}
-use Rattle.floyd_assert_trees.specs.declared.spec.Postcondition.{Postcondition}
 use Rattle.floyd_assert_trees.specs.declared.spec.SpecTable.{SpecTable}
 use Rattle.floyd_assert_changes.specs.Changed.{assertion_after, below_existentials, existential_name, has_name, inside, local_after, part_after}
 use Rattle.floyd_assert_changes.specs.NamesClauses.{term_names}
 use Rattle.floyd_assert_changes.proofs.Naming.{has_term}
 use Rattle.floyd_assert_changes.proofs.Replacing.{replaced_all}
 use Rattle.floyd_assert_meaning.specs.Assertions.{Holds, LocalsHold}
-use Rattle.floyd_assert_meaning.specs.Laws.{AgreeWhere}
 use Rattle.floyd_assert_meaning.specs.Parts.{PartsHold}
 use Rattle.floyd_assert_meaning.specs.Settings.{Setting, AreFor, bare_env, item_env, with_data, with_each}
 use Rattle.floyd_assert_meaning.specs.Specifications.{Post, PostHolds, Pre, Returns}
@@ -56,8 +53,8 @@ use Rattle.floyd_assert_laws.proofs.NewNames.{IsNewName, is_new_name}
 use Rattle.floyd_assert_laws.proofs.Renamed as renamed
 use Rattle.floyd_assert_laws.proofs.Replaced.{assertion_changed}
 use Rattle.floyd_goal_forms.specs.Assertions.{AssertionFits, PartsFit, PredicatesOf}
-use Rattle.floyd_goal_forms.specs.Items.{FunspecFits, PostFits, PreFits, ValueFits, post_scope}
-use Rattle.floyd_goal_forms.specs.Terms.{FormulasFit, TermFits, TermsFit, names_with, scope_with}
+use Rattle.floyd_goal_forms.specs.Items.{FunspecFits, ValueFits, post_scope}
+use Rattle.floyd_goal_forms.specs.Terms.{TermFits, TermsFit, names_with, scope_with}
 use Rattle.floyd_goal_laws.proofs.Growing.{term_fits_program}
 use Rattle.floyd_goal_meaning.specs.declared.linked.Linked.{Linked}
 use Rattle.floyd_goal_meaning.specs.GoalHolds.{Given, HoldsFor, LemmasAreTrue}
@@ -66,12 +63,12 @@ use Rattle.floyd_goal_meaning.specs.Programs.{Further, Places, defs_of, setting}
 use Rattle.floyd_goal_names.specs.Free.{AreNew, context_mentions}
 use Rattle.floyd_goal_names.proofs.NewNames.{given_names}
 use Rattle.floyd_goal_scopes.proofs.Parts.{assertion_known}
-use Rattle.floyd_goal_scopes.proofs.Terms.{Known, all_known, is_name, list_known, props_known}
+use Rattle.floyd_goal_scopes.proofs.Terms.{all_known, is_name, list_known, props_known}
 use Rattle.floyd_goal_trees.specs.declared.context.Context.{Context}
 use Rattle.floyd_goal_trees.specs.declared.context.Mark.TheVariants as m
 use Rattle.floyd_goal_trees.specs.declared.goal.Goal.{Goal}
 use Rattle.floyd_goal_trees.specs.declared.goal.Goal.TheVariants.{Entail}
-use Rattle.floyd_links.specs.Imports.{equation, equations, first_goal, fresh_from, import_post, is_among, own_post, plain_assertion, second_goal, value_equation, value_in, value_local, with_terms, with_value}
+use Rattle.floyd_links.specs.Imports.{equations, first_goal, fresh_from, import_post, is_among, own_post, plain_assertion, second_goal, value_equation, value_in, value_local, with_terms, with_value}
 use Rattle.floyd_start_laws.proofs.ItemEnvs.{item_global, item_suits}
 use Rattle.floyd_import_laws.specs.Laws.{ImportFits, IsServed, value_nodes}
 use Rattle.floyd_import_laws.proofs.Collected.{has_listed, listed_length, listed_names, name_append, named, term_few}

@@ -1,5 +1,5 @@
 -- What is well formed is sorted, and terms of the sorts that its variables have may be put in their place.
-use Rattle.std.proofs.Common.{◌≡◌, ℕ, suc, Bool, true, false, ◌||◌, cond, List, [], ◌∷◌, ◌++◌, length, map, Option, Some, None, refl, sym, ap, subst, ◌∙◌, arith}
+use Rattle.std.proofs.Common.{◌≡◌, ℕ, suc, Bool, true, false, ◌||◌, cond, List, [], ◌∷◌, ◌++◌, length, map, Some, refl, sym, ap, subst, ◌∙◌, arith}
 use Rattle.std.specs.Prelude.{bytes_eq, IsSome}
 use Rattle.std.specs.List.{AllByRecursion, flat_map}
 use Rattle.std.specs.Map.{lookup}
@@ -13,7 +13,7 @@ use Rattle.floyd_tree.specs.declared.paths.PathStep.{PathStep}
 use Rattle.floyd_tree.specs.declared.paths.PathStep.TheVariants.{Field, Subscript}
 use Rattle.floyd_tree.specs.Formulas.{PlainFormula, PlainFormulas, Says, NoFormula, MoreFormulas, all_well_sorted, formulas, well_sorted}
 use Rattle.floyd_tree.specs.Plain.{Plain, Plains, At, Done, More, plains}
-use Rattle.floyd_tree.specs.WellSorted.{sort_of, sorts_of, with_first}
+use Rattle.floyd_tree.specs.WellSorted.{sorts_of, with_first}
 use Rattle.floyd_tree_values.specs.Means as m
 use Rattle.floyd_tree_values.specs.Rules.{AllAllowed, Calls, CallsOf, EachAllowed, Scope}
 use Rattle.floyd_tree_values.specs.Rules as r

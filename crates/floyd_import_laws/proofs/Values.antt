@@ -1,5 +1,5 @@
 -- The values of the terms that stand for the variables of a specification, and what is well formed in it.
-use Rattle.std.proofs.Common.{◌≡◌, inl, inr, ⊎_elim, ℕ, Bool, true, false, not, ◌&&◌, cond, List, [], ◌∷◌, ◌++◌, length, map, Option, Some, refl, sym, ◌∙◌, ap, subst, arith, true≢false}
+use Rattle.std.proofs.Common.{◌≡◌, inl, inr, ⊎_elim, ℕ, Bool, true, false, not, cond, List, [], ◌∷◌, ◌++◌, length, map, Some, refl, sym, ◌∙◌, ap, subst, arith, true≢false}
 use Rattle.std.specs.Prelude.{bytes_eq, if◌then◌else◌, IsSome}
 use Rattle.std.specs.List.{flat_map}
 use Rattle.std.specs.Map.{lookup}

@@ -1,6 +1,6 @@
 -- The worked example.
-use Rattle.std.proofs.Common.{◌≡◌, ℕ, zero, suc, cond, inl, List, [], ◌∷◌, Some, None, refl, ap}
-use Rattle.std.specs.Prelude.{bytes_eq, pos}
+use Rattle.std.proofs.Common.{◌≡◌, ℕ, cond, inl, List, [], ◌∷◌, Some, None, refl, ap}
+use Rattle.std.specs.Prelude.{pos}
 use Rattle.std.proofs.lemmas.Slice.Eq.{bytes_eq-Decides}
 use Rattle.floyd_int.specs.declared.kinds.Value.TheVariants.{Vint as VintValue}
 use Rattle.floyd_ctypes.specs.Has.{has}

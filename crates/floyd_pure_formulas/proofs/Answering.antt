@@ -1,9 +1,9 @@
 -- What calls answer, passed on to what a row says of it.
-use Rattle.std.proofs.Common.{◌≡◌, Bool, true, false, List, Ok, Err, Result, refl, sym, subst}
+use Rattle.std.proofs.Common.{◌≡◌, Bool, true, false, List, Ok, Err, Result, refl, sym}
 use Rattle.floyd_text.specs.declared.refusal.No.{No}
 use Rattle.floyd_text.specs.declared.refusal.RuleStop.{RuleStop}
 use Rattle.floyd_text.specs.declared.refusal.RuleStop.TheVariants as r
-use Rattle.floyd_text.specs.Gives.{RuleGives, RuleStops}
+use Rattle.floyd_text.specs.Gives.{RuleGives}
 use Rattle.floyd_goal.specs.Answers.{IsAnswer}
 use Rattle.floyd_goal_trees.specs.declared.goal.Goal.{Goal}
 use Rattle.floyd_pure_formulas.specs.Rows.{Answer, Unless}

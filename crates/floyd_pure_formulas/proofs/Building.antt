@@ -1,16 +1,14 @@
 -- Terms of constructors are of the sort of the variable that they replace, and within the limits.
-use Rattle.std.proofs.Common.{◌≡◌, ℕ, zero, suc, Bool, true, ◌&&◌, List, [], ◌∷◌, length, Option, Some, None, refl, sym, ap, subst, arith}
-use Rattle.floyd_tree_sorts.specs.declared.heads.Head.TheVariants as h
-use Rattle.floyd_tree_sorts.specs.declared.operators.Operator.TheVariants as o
+use Rattle.std.proofs.Common.{◌≡◌, ℕ, true, ◌&&◌, List, [], ◌∷◌, length, Some, refl, sym, ap, subst, arith}
 use Rattle.floyd_tree_sorts.specs.declared.sorts.Sort.{Sort, ListOf', TreeOf', more_of-Sort, end_of-Sort}
-use Rattle.floyd_tree_sorts.specs.Sorts.{item_sort, list_sort, node_sort, tree_sort}
+use Rattle.floyd_tree_sorts.specs.Sorts.{list_sort, tree_sort}
 use Rattle.floyd_tree_sorts.specs.Table.{when}
 use Rattle.floyd_tree_sorts.proofs.SortLemmas.{same_sort_self}
 use Rattle.floyd_tree.specs.Made.{fits}
 use Rattle.floyd_tree.specs.WellSorted.{sort_of}
 use Rattle.floyd_pure_formulas.specs.declared.constructors.Constructors.{Constructors}
 use Rattle.floyd_pure_formulas.specs.ConstructorsClauses.{AreOf}
-use Rattle.floyd_pure_formulas.specs.VariableCases.{built, constructors_of, of_either, of_list, of_tree, zipped}
+use Rattle.floyd_pure_formulas.specs.VariableCases.{built, constructors_of, of_list, of_tree, zipped}
 
 pub record Two (names : List (List ℕ)) : Type 0 where
   pub first : List ℕ

@@ -1,43 +1,44 @@
 -- The cases of a hypothesis are all, and a goal is true where it is in each of them.
-use Rattle.std.proofs.Common.{◌≡◌, ◌↔◌, ◌⊎◌, inl, inr, ⊎_elim, ℕ, Bool, true, false, cond, List, [], ◌∷◌, ◌++◌, map, All, Option, Some, None, Result, Ok, Err, refl, sym, ap, subst, ◌∙◌}
+use Rattle.std.proofs.Common.{◌≡◌, ◌⊎◌, inl, inr, ⊎_elim, ℕ, Bool, true, false, cond, List, [], ◌∷◌, map, Option, Some, None, Result, Ok, Err, refl, ap, subst, ◌∙◌}
 use Rattle.floyd_text.specs.declared.code.Code.TheVariants as c
 use Rattle.floyd_text.specs.declared.refusal.No.{No}
 use Rattle.floyd_tree_sorts.specs.declared.connectives.FormulaHead.TheVariants as f
 use Rattle.floyd_tree_sorts.specs.declared.sorts.Sort.{Sort}
 use Rattle.floyd_tree_sorts.proofs.SortLemmas.{same_sort_self}
 use Rattle.floyd_tree.specs.Formulas.{PlainFormula, Says, NoFormula, MoreFormulas, listed_formulas}
-use Rattle.floyd_tree.specs.Plain.{Plain, listed}
+use Rattle.floyd_tree.specs.Plain.{listed}
 use Rattle.floyd_tree_values.specs.BuiltIns.{Env}
 use Rattle.floyd_tree_values.specs.Means.{Defs}
-use Rattle.floyd_tree_values.specs.Rules.{DefsKeep, Suits}
+use Rattle.floyd_tree_values.specs.Rules.{Suits}
 use Rattle.floyd_truth.specs.Truth.{Truth, AllTrue, with_datum}
 use Rattle.floyd_truth.proofs.OneTruth.{put}
 use Rattle.floyd_assert_trees.specs.declared.binder.Binder.{Binder}
 use Rattle.floyd_assert_changes.specs.Changed.{has_name}
 use Rattle.floyd_assert_changes.specs.Substituted.{formula_with}
-use Rattle.floyd_goal_trees.specs.declared.args.Args.{Args}
 use Rattle.floyd_goal_trees.specs.declared.goal.Goal.{Goal}
 use Rattle.floyd_goal_trees.specs.declared.goal.Goal.TheVariants as g
 use Rattle.floyd_goal_trees.specs.declared.goal.Pure.{Pure}
 use Rattle.floyd_goal.specs.Goals.{number_of, refusal}
 use Rattle.floyd_goal.specs.Sides.{context_of}
 use Rattle.floyd_goal_formulas.specs.Fits.{Fits}
-use Rattle.floyd_goal_formulas.specs.Said.{Saying, Equation, Inequality, Pointer, NotUndefined, OfType, Absurd, Implication, Either, Both, ForAll, ThereIs, Else, said, of_pair, of_one, pair_of, one_of, last_of}
+use Rattle.floyd_goal_formulas.specs.Said.{Saying, Equation, Inequality, Pointer, NotUndefined, OfType, Absurd, Implication, Either, Both, ForAll, ThereIs, said, of_pair, of_one, pair_of, one_of, last_of}
 use Rattle.floyd_goal_formulas.proofs.Sayings.{SaidTrue, truth_said}
 use Rattle.floyd_goal_truth.specs.Scopes.{AllFit, scope_of}
-use Rattle.floyd_goal_truth.specs.Truths.{IsTrueGoal, Under}
+use Rattle.floyd_goal_truth.specs.Truths.{Under}
 use Rattle.floyd_goal_truth.proofs.Uses.{all_true, hypothesis_fits, hypothesis_true}
-use Rattle.floyd_pure_formulas.specs.Holds.{Specs, AreTrue}
-use Rattle.floyd_pure_formulas.specs.HypothesisCases.{Case, Known, Opened, HypothesisCases, OfCases, OfExists, Opens, cases_of, in_case, in_cases, opened}
+use Rattle.floyd_pure_formulas.specs.Holds.{Specs}
+use Rattle.floyd_pure_formulas.specs.HypothesisCases.{Case, Known, Opened, OfCases, OfExists, cases_of, in_case, in_cases, opened}
 use Rattle.floyd_pure_formulas.specs.Instances.{instance_at}
+use Rattle.floyd_pure_formulas.specs.Keeps.{AreTrueFrom}
 use Rattle.floyd_pure_formulas.specs.Naming.{taken, variable}
-use Rattle.floyd_pure_formulas.specs.Rows.{Answer, Unless, no_such}
-use Rattle.floyd_pure_formulas.specs.Splits.{AllNew, HypothesisSplits, IsSo, SomeIsSo, Splits}
-use Rattle.floyd_pure_formulas.proofs.NewVariables.{all_like, like_new, means_new, suits_new}
+use Rattle.floyd_pure_formulas.specs.Rows.{Unless, no_such}
+use Rattle.floyd_pure_formulas.specs.Splits.{AllNew, HypothesisSplits, SomeIsSo, Splits}
+use Rattle.floyd_pure_formulas.proofs.Going.{itself}
+use Rattle.floyd_pure_formulas.proofs.NewVariables.{all_like, goes_on, like_new, means_new, suits_new}
 use Rattle.floyd_pure_formulas.proofs.Likes.{like_back, like_below, truth_like}
-use Rattle.floyd_pure_formulas.proofs.Rowing.{found, goals_are, no_goals, passed}
+use Rattle.floyd_pure_formulas.proofs.Rowing.{found, goals_are, no_goals}
 use Rattle.floyd_pure_formulas.proofs.Shapes.{there_is, there_is_fits}
-use Rattle.floyd_pure_formulas.proofs.Substituting.{Instantiated, instance_true, instantiated}
+use Rattle.floyd_pure_formulas.proofs.Substituting.{instance_true, instantiated}
 
 no_pair : {T : Type 0} (says : T → T → Saying) (o : Option (T × T)) → ((a b : T) → says a b ≡ Absurd → ⊥) → of_pair says o ≡ Absurd → ⊥
 no_pair says None h e = cc
@@ -142,10 +143,10 @@ hypothesis_splitting defs specs goal args goals hyps_fit row =
     hyps_fit (no_such args) args.names p.2
 
 module _ (defs : Defs) (specs : Specs) (pure : Pure) (hyps_fit : AllFit defs pure.context pure.context.hypotheses) (fit : Fits defs (scope_of pure.context) pure.target) (env : Env) (suits : Suits (scope_of pure.context) env) (hyps : AllTrue defs specs env pure.context.hypotheses) where
-  in_case_true : (cases : List Case) → AllNew (g.Pure pure) cases → AreTrue defs specs (map (in_case (g.Pure pure)) cases) → SomeIsSo defs specs env cases → Truth defs specs env pure.target
+  in_case_true : (cases : List Case) → AllNew (g.Pure pure) cases → AreTrueFrom defs specs pure.context env (map (in_case (g.Pure pure)) cases) → SomeIsSo defs specs env cases → Truth defs specs env pure.target
   in_case_true [] new t s = absurd s
   in_case_true (Known fs ∷ cases) new t s =
-      ⊎_elim (λ h. t.0 env suits (all_true defs specs env pure.context.hypotheses fs hyps h)) (λ h. in_case_true cases new t.1 h) s
+      ⊎_elim (λ h. t.0 env suits (all_true defs specs env pure.context.hypotheses fs hyps h) (itself pure.context env)) (λ h. in_case_true cases new t.1 h) s
   in_case_true (Opened b a ∷ cases) new t s =
       ⊎_elim
       (λ h.
@@ -153,11 +154,11 @@ module _ (defs : Defs) (specs : Specs) (pure : Pure) (hyps_fit : AllFit defs pur
       let next = with_datum env b.name h.0 in
       let like = like_new pure.context env b.name b.sort h.0 new.0 in
       let more = all_like defs specs scope env (put env.variables b.name h.0) like pure.context.hypotheses hyps_fit hyps in
-      let there = t.0 next (suits_new pure.context env b.name b.sort h.0 new.0 suits h.1) (all_true defs specs next pure.context.hypotheses (a ∷ []) more (h.2, tt)) in
+      let there = t.0 next (suits_new pure.context env b.name b.sort h.0 new.0 suits h.1) (all_true defs specs next pure.context.hypotheses (a ∷ []) more (h.2, tt)) (goes_on pure.context env b.name b.sort h.0 new.0) in
       truth_like defs specs env scope (put env.variables b.name h.0) env.variables (like_back scope env.variables (put env.variables b.name h.0) like) pure.target fit.allowed there)
       (λ h. in_case_true cases new.1 t.1 h)
       s
 
-pub split_true : (defs : Defs) (specs : Specs) (pure : Pure) (goals : List Goal) → AllFit defs pure.context pure.context.hypotheses → Fits defs (scope_of pure.context) pure.target → Splits defs specs (g.Pure pure) goals → AreTrue defs specs goals → IsTrueGoal defs specs pure
-split_true defs specs pure goals hyps_fit fit s t env suits hyps =
-    in_case_true defs specs pure hyps_fit fit env suits hyps s.cases s.new (subst (AreTrue defs specs) s.made t) (s.hold env suits hyps)
+pub split_true : (defs : Defs) (specs : Specs) (pure : Pure) (goals : List Goal) → AllFit defs pure.context pure.context.hypotheses → Fits defs (scope_of pure.context) pure.target → Splits defs specs (g.Pure pure) goals → Under defs specs pure.context (λ env. AreTrueFrom defs specs pure.context env goals → Truth defs specs env pure.target)
+split_true defs specs pure goals hyps_fit fit s env suits hyps t =
+    in_case_true defs specs pure hyps_fit fit env suits hyps s.cases s.new (subst (AreTrueFrom defs specs pure.context env) s.made t) (s.hold env suits hyps)

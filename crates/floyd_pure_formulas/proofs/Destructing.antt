@@ -1,8 +1,8 @@
 -- `destruct` keeps truth, and what its calls ask for.
-use Rattle.std.proofs.Common.{◌≡◌, ◌⊎◌, ℕ, Bool, List, [], ◌∷◌, Option, Some, None, Result, Ok, Err, refl, sym, subst}
-use Rattle.floyd_tree_sorts.specs.declared.sorts.Sort.{Sort}
+use Rattle.std.proofs.Common.{◌≡◌, List, Some, Ok, refl}
 use Rattle.floyd_tree.specs.Formulas.{PlainFormula}
 use Rattle.floyd_tree_values.specs.Means.{Defs}
+use Rattle.floyd_truth.specs.Truth.{Truth}
 use Rattle.floyd_goal_trees.specs.declared.args.Args.{Args}
 use Rattle.floyd_goal_trees.specs.declared.args.Target as t
 use Rattle.floyd_goal_trees.specs.declared.goal.Goal.{Goal}
@@ -13,27 +13,28 @@ use Rattle.floyd_goal.specs.Sides.{context_of}
 use Rattle.floyd_goal_formulas.specs.Fits.{Fits}
 use Rattle.floyd_goal_formulas.specs.Said.{Saying, ThereIs, said}
 use Rattle.floyd_goal_truth.specs.Scopes.{AllFit, scope_of}
-use Rattle.floyd_goal_truth.specs.Truths.{IsTrueGoal}
+use Rattle.floyd_goal_truth.specs.Truths.{Under}
 use Rattle.floyd_goal_truth.proofs.Uses.{hypothesis_fits}
 use Rattle.floyd_pure_formulas.specs.Destruct.{DestructRow, OfTarget}
-use Rattle.floyd_pure_formulas.specs.Holds.{AreTrue, Holds, Specs}
+use Rattle.floyd_pure_formulas.specs.Holds.{Specs}
+use Rattle.floyd_pure_formulas.specs.Keeps.{AreTrueFrom, KeepsTruth}
 use Rattle.floyd_pure_formulas.specs.OpeningClauses.{CanOpen}
-use Rattle.floyd_pure_formulas.specs.Rows.{Answer, named_by}
+use Rattle.floyd_pure_formulas.specs.Rows.{named_by}
 use Rattle.floyd_pure_formulas.proofs.CasesTrue.{hypothesis_splitting, split_true}
 use Rattle.floyd_pure_formulas.proofs.Rowing.{passed}
 use Rattle.floyd_pure_formulas.proofs.Shapes.{there_is, there_is_fits}
 use Rattle.floyd_pure_formulas.proofs.Substituting.{body_takes}
 use Rattle.floyd_pure_formulas.proofs.VariableTrue.{variable_true}
 
-of_target : (defs : Defs) (specs : Specs) (pure : Pure) (args : Args) (goals : List Goal) → AllFit defs pure.context pure.context.hypotheses → Fits defs (scope_of pure.context) pure.target → (target : t.Target) → OfTarget (g.Pure pure) args target (Ok goals) → AreTrue defs specs goals → IsTrueGoal defs specs pure
-of_target defs specs pure args goals hyps_fit fit t.TheVariants.Nothing row true' = variable_true defs specs pure args goals hyps_fit fit row true'
-of_target defs specs pure args goals hyps_fit fit (t.TheVariants.Part k) row true' = variable_true defs specs pure args goals hyps_fit fit row true'
-of_target defs specs pure args goals hyps_fit fit (t.TheVariants.Hypothesis k) row true' =
-    split_true defs specs pure goals hyps_fit fit (hypothesis_splitting defs specs (g.Pure pure) args goals hyps_fit row) true'
+of_target : (defs : Defs) (specs : Specs) (pure : Pure) (args : Args) (goals : List Goal) → AllFit defs pure.context pure.context.hypotheses → Fits defs (scope_of pure.context) pure.target → (target : t.Target) → OfTarget (g.Pure pure) args target (Ok goals) → Under defs specs pure.context (λ env. AreTrueFrom defs specs pure.context env goals → Truth defs specs env pure.target)
+of_target defs specs pure args goals hyps_fit fit t.TheVariants.Nothing row = variable_true defs specs pure args goals hyps_fit fit row
+of_target defs specs pure args goals hyps_fit fit (t.TheVariants.Part k) row = variable_true defs specs pure args goals hyps_fit fit row
+of_target defs specs pure args goals hyps_fit fit (t.TheVariants.Hypothesis k) row =
+    split_true defs specs pure goals hyps_fit fit (hypothesis_splitting defs specs (g.Pure pure) args goals hyps_fit row)
 
-pub destruct_true : Holds DestructRow
-destruct_true defs specs pure args goals keeps hyps_fit fit args_fit row true' =
-    of_target defs specs pure args goals hyps_fit fit args.target (passed (is_pending (g.Pure pure)) intros_first (OfTarget (g.Pure pure) args args.target) goals row) true'
+pub destruct_true : KeepsTruth DestructRow
+destruct_true defs specs pure args goals keeps hyps_fit fit args_fit row =
+    of_target defs specs pure args goals hyps_fit fit args.target (passed (is_pending (g.Pure pure)) intros_first (OfTarget (g.Pure pure) args args.target) goals row)
 
 -- a hypothesis that is well formed can be opened
 can_open : (defs : Defs) (goal : Goal) (h : PlainFormula) → Fits defs (scope_of (context_of goal)) h → (s : Saying) → said h ≡ s → CanOpen s

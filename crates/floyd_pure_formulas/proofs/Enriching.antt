@@ -16,10 +16,10 @@ use Rattle.floyd_goal_truth.specs.Scopes.{AllFit, scope_of}
 use Rattle.floyd_goal_truth.specs.Truths.{Under}
 use Rattle.floyd_goal_truth.proofs.Sides.{TargetTrue, side_context, side_sound_at}
 use Rattle.floyd_goal_truth.proofs.Uses.{all_true}
-use Rattle.floyd_pure_formulas.specs.Holds.{Specs, Adds, AddsTrue, Holds, Refutes}
+use Rattle.floyd_pure_formulas.specs.Holds.{Specs, Adds, AddsTrue, Refutes}
 use Rattle.floyd_pure_formulas.specs.Keeps.{AreTrueFrom, KeepsTruth}
 use Rattle.floyd_pure_formulas.specs.Rows.{Row, Concludes, after_side, with_more}
-use Rattle.floyd_pure_formulas.proofs.Going.{holds_of, itself}
+use Rattle.floyd_pure_formulas.proofs.Going.{itself}
 use Rattle.floyd_pure_formulas.proofs.Rowing.{sides_found}
 
 abbrev targets_of : Option Pure → List PlainFormula
@@ -69,6 +69,3 @@ keeps_by_adding R adds defs specs pure args goals keeps hyps_fit target_fit args
 pub keeps_by_refuting : (R : Row) → Refutes R → KeepsTruth R
 keeps_by_refuting R refutes defs specs pure args goals keeps hyps_fit target_fit args_fit row env suits hyps proved =
     absurd ((refutes defs specs (g.Pure pure) args goals row).1 env suits hyps)
-
-pub holds_by_adding : (R : Row) → AddsTrue R → Holds R
-holds_by_adding R adds = holds_of R (keeps_by_adding R adds)

@@ -1,5 +1,5 @@
 -- A term in the place of a variable of the context, whose value it has.
-use Rattle.std.proofs.Common.{◌≡◌, ◌↔◌, ℕ, ◌+◌, ◌<◌, ◌≤◌, ◌^◌, Bool, true, false, ◌&&◌, cond, List, [], ◌∷◌, ◌++◌, map, All, Option, Some, None, Result, Ok, Err, refl, sym, ap, subst, ◌∙◌, arith, leb-true}
+use Rattle.std.proofs.Common.{◌≡◌, ◌↔◌, ℕ, ◌+◌, ◌<◌, ◌≤◌, ◌^◌, Bool, true, false, ◌&&◌, cond, List, [], ◌∷◌, ◌++◌, map, All, Some, None, Result, Ok, Err, refl, sym, ap, subst, ◌∙◌, arith, leb-true}
 use Rattle.std.specs.Prelude.{bytes_eq, nat_le}
 use Rattle.std.specs.List.{list_all}
 use Rattle.std.specs.Map.{lookup}
@@ -33,9 +33,10 @@ use Rattle.floyd_goal_trees.specs.declared.goal.Goal.{Goal}
 use Rattle.floyd_goal_trees.specs.declared.goal.Goal.TheVariants as g
 use Rattle.floyd_goal_trees.specs.declared.goal.Pure.{Pure}
 use Rattle.floyd_goal_truth.specs.Scopes.{AllFit, scope_of}
-use Rattle.floyd_goal_truth.specs.Truths.{IsTrueGoal}
-use Rattle.floyd_pure_formulas.specs.Holds.{Specs, IsTrue}
+use Rattle.floyd_pure_formulas.specs.Holds.{Specs}
+use Rattle.floyd_pure_formulas.specs.Keeps.{IsTrueFrom}
 use Rattle.floyd_pure_formulas.specs.VariableCases.{case_with, exchanged, with_exchanged, without}
+use Rattle.floyd_pure_formulas.proofs.Going.{stays_without}
 use Rattle.floyd_pure_formulas.proofs.Likes.{Like, like_back, truth_like}
 use Rattle.floyd_pure_formulas.proofs.Substituting.{Suiting, formula_agrees, formula_size_kept}
 
@@ -146,11 +147,12 @@ made_by pure x t new made e = by (formulas_with ((x, t) ∷ []) pure.context.hyp
     by (Ok hs) h (Err why) i e = absurd cc
     by (Err why) h q i e = absurd cc
 
--- The goal is true where a case of it is, for data under which the case's term has the value of x.
-pub case_true : (defs : Defs) (specs : Specs) (pure : Pure) (x : List ℕ) (sort : Sort) (t : Plain) (new : List Binder) (made : Goal) (env : Env) (f : List ℕ → Datum) → AllFit defs pure.context pure.context.hypotheses → Fits defs (scope_of pure.context) pure.target → AllTrue defs specs env pure.context.hypotheses → lookup (bytes_eq x) (scope_of pure.context) ≡ Some sort → sort_of t ≡ Some sort → fits t ≡ true → case_with (g.Pure pure) x t new ≡ Ok made → IsTrue defs specs made → ((v : List ℕ) (r : Sort) → lookup (bytes_eq v) (scope_of pure.context) ≡ Some r → bytes_eq v x ≡ false → env.variables v ≡ f v) → Means defs (giving env f) t (env.variables x) → Suits (map pair (without x pure.context.variables ++ new)) (giving env f) → Truth defs specs env pure.target
-case_true defs specs pure x sort t new made env f hyps_fit fit hyps here sorted small_term row true' like means suits =
+-- The goal is true where a case of it is, for data under which the case's term has the value of x, and which are the same for
+-- the variables of the goal.
+pub case_true : (defs : Defs) (specs : Specs) (pure : Pure) (x : List ℕ) (sort : Sort) (t : Plain) (new : List Binder) (made : Goal) (env : Env) (f : List ℕ → Datum) → AllFit defs pure.context pure.context.hypotheses → Fits defs (scope_of pure.context) pure.target → AllTrue defs specs env pure.context.hypotheses → lookup (bytes_eq x) (scope_of pure.context) ≡ Some sort → sort_of t ≡ Some sort → fits t ≡ true → case_with (g.Pure pure) x t new ≡ Ok made → IsTrueFrom defs specs pure.context env made → ((v : List ℕ) (r : Sort) → lookup (bytes_eq v) (scope_of pure.context) ≡ Some r → env.variables v ≡ f v) → Means defs (giving env f) t (env.variables x) → Suits (map pair (without x pure.context.variables ++ new)) (giving env f) → Truth defs specs env pure.target
+case_true defs specs pure x sort t new made env f hyps_fit fit hyps here sorted small_term row true' same means suits =
     let scope = scope_of pure.context in
     let m = made_by pure x t new made row in
-    let goal : IsTrueGoal defs specs (pure_case pure.context x new m.hypotheses m.target) = subst (IsTrue defs specs) m.is true' in
-    let all = each_of_made defs specs scope x sort here env f like t sorted small_term means pure.context.hypotheses m.hypotheses hyps_fit m.all hyps in
-    one_of_made defs specs scope x sort here env f like t sorted small_term means pure.target m.target fit m.one (goal (giving env f) suits all)
+    let goal : IsTrueFrom defs specs pure.context env (g.Pure (pure_case pure.context x new m.hypotheses m.target)) = subst (IsTrueFrom defs specs pure.context env) m.is true' in
+    let all = each_of_made defs specs scope x sort here env f (λ v r e k. same v r e) t sorted small_term means pure.context.hypotheses m.hypotheses hyps_fit m.all hyps in
+    one_of_made defs specs scope x sort here env f (λ v r e k. same v r e) t sorted small_term means pure.target m.target fit m.one (goal (giving env f) suits all (record { global = refl; local = refl; variables = λ v r e. sym (same v r e); promise = stays_without x pure.context.mark }))

@@ -1,12 +1,11 @@
 -- The truth of a formula depends on the variables of its scope alone.
-use Rattle.std.proofs.Common.{◌≡◌, ◌↔◌, ℕ, Bool, true, false, ◌||◌, ◌⊎◌, inl, inr, ⊎_elim, List, [], ◌∷◌, Option, Some, None, refl, sym, ap, subst, ◌∙◌, cond}
+use Rattle.std.proofs.Common.{◌≡◌, ℕ, Bool, true, false, ◌||◌, ◌⊎◌, inl, inr, ⊎_elim, List, ◌∷◌, Some, refl, sym, ap, subst, ◌∙◌, cond}
 use Rattle.std.specs.Prelude.{bytes_eq}
 use Rattle.std.specs.Map.{lookup}
 use Rattle.std.proofs.lemmas.Slice.Eq.{bytes_eq-Decides}
 use Rattle.floyd_int.specs.declared.kinds.Value.{Value}
 use Rattle.floyd_ctypes.specs.Structs.{Structs}
 use Rattle.floyd_tree_sorts.specs.declared.connectives.FormulaHead.TheVariants.{True, False, Implies, Or, And, Forall, Exists}
-use Rattle.floyd_tree_sorts.specs.declared.heads.Head.{Head}
 use Rattle.floyd_tree_sorts.specs.declared.heads.Head.TheVariants.{Variable}
 use Rattle.floyd_tree_sorts.specs.declared.sorts.Sort.{Sort}
 use Rattle.floyd_tree.specs.Formulas.{PlainFormula, PlainFormulas, Says, NoFormula, MoreFormulas}
@@ -16,11 +15,11 @@ use Rattle.floyd_tree_values.specs.Data.{Datum}
 use Rattle.floyd_tree_values.specs.Means.{Defs, AllMean, more, none}
 use Rattle.floyd_tree_values.proofs.OneValue.{no_data, split}
 use Rattle.floyd_tree_values.specs.Rules.{Scope, Calls, CallsOf, EachAllowed, AllAllowed}
-use Rattle.floyd_truth.specs.Truth.{Truth, FirstTrue, SecondTrue, AllTrue}
+use Rattle.floyd_truth.specs.Truth.{Truth, FirstTrue, SecondTrue}
 use Rattle.floyd_truth.proofs.Fresh.{or_left, or_right}
 use Rattle.floyd_truth.proofs.OneTruth.{giving, put, says_of}
 use Rattle.floyd_truth.proofs.Tracks.{means_like}
-use Rattle.floyd_goal_formulas.specs.Fits.{Fits, IsAllowed, AreAllowed}
+use Rattle.floyd_goal_formulas.specs.Fits.{IsAllowed, AreAllowed}
 
 -- both give the same to the variables of the scope
 abbrev pub Like : Scope → (List ℕ → Datum) → (List ℕ → Datum) → Type 0

@@ -1,43 +1,30 @@
 -- A goal is true where it is with its premise as a hypothesis, or with a variable more.
-use Rattle.std.proofs.Common.{◌≡◌, ◌↔◌, ◌⊎◌, inl, inr, ℕ, Bool, true, false, ◌||◌, List, [], ◌∷◌, ◌++◌, map, All, Option, Some, None, Result, Ok, Err, refl, sym, ap, subst, ◌∙◌, cond, true≢false}
+use Rattle.std.proofs.Common.{◌≡◌, ◌⊎◌, inl, inr, ℕ, Bool, true, false, ◌||◌, List, [], ◌∷◌, ◌++◌, map, All, Option, Some, None, refl, sym, ap, subst, ◌∙◌, cond, true≢false}
 use Rattle.std.specs.Prelude.{bytes_eq}
 use Rattle.std.specs.Map.{lookup}
 use Rattle.std.proofs.lemmas.List.Elements.{All-head, All-tail}
 use Rattle.std.proofs.lemmas.Slice.Eq.{bytes_eq-Decides}
-use Rattle.floyd_text.specs.declared.refusal.No.{No}
-use Rattle.floyd_tree_sorts.specs.declared.connectives.FormulaHead.TheVariants as f
 use Rattle.floyd_tree_sorts.specs.declared.heads.Head.TheVariants.{Variable}
 use Rattle.floyd_tree_sorts.specs.declared.sorts.Sort.{Sort}
-use Rattle.floyd_tree_sorts.proofs.SortLemmas.{same_sort_self}
-use Rattle.floyd_tree.specs.Formulas.{PlainFormula, Says, NoFormula, MoreFormulas}
-use Rattle.floyd_tree.specs.Plain.{Plain, At, Done}
+use Rattle.floyd_tree.specs.Formulas.{PlainFormula}
 use Rattle.floyd_tree_values.specs.BuiltIns.{Env}
 use Rattle.floyd_tree_values.specs.Data.{Datum, HasSort}
 use Rattle.floyd_tree_values.specs.Means.{Defs, Means, built_in, none}
-use Rattle.floyd_tree_values.specs.Rules.{DefsKeep, Scope, Suits}
-use Rattle.floyd_truth.specs.Truth.{Truth, AllTrue, with_datum}
+use Rattle.floyd_tree_values.specs.Rules.{Scope, Suits}
+use Rattle.floyd_truth.specs.Truth.{AllTrue, with_datum}
 use Rattle.floyd_truth.proofs.OneTruth.{put}
 use Rattle.floyd_assert_trees.specs.declared.binder.Binder.{Binder}
 use Rattle.floyd_assert_changes.specs.Changed.{has_name}
-use Rattle.floyd_assert_changes.specs.Substituted.{formula_with}
+use Rattle.floyd_goal_trees.specs.Contexts.{unmarked}
 use Rattle.floyd_goal_trees.specs.declared.context.Context.{Context}
-use Rattle.floyd_goal_trees.specs.declared.goal.Goal.{Goal}
-use Rattle.floyd_goal_trees.specs.declared.goal.Goal.TheVariants as g
-use Rattle.floyd_goal_trees.specs.declared.goal.Pure.{Pure}
-use Rattle.floyd_goal.specs.Goals.{enriched}
 use Rattle.floyd_goal_formulas.specs.Fits.{Fits}
-use Rattle.floyd_goal_formulas.specs.Said.{Saying, Implication, ForAll, said}
-use Rattle.floyd_goal_formulas.proofs.Sayings.{SaidTrue, said_truth}
-use Rattle.floyd_goal_truth.specs.Scopes.{AllFit, scope_of}
-use Rattle.floyd_goal_truth.specs.Truths.{IsTrueGoal}
-use Rattle.floyd_goal_truth.proofs.Uses.{all_true}
-use Rattle.floyd_pure_formulas.specs.Holds.{Specs, AreTrue, Holds}
+use Rattle.floyd_goal_truth.specs.Scopes.{scope_of}
+use Rattle.floyd_pure_formulas.specs.Holds.{Specs}
+use Rattle.floyd_pure_formulas.specs.Keeps.{GoesOn}
 use Rattle.floyd_pure_formulas.specs.Naming.{variable}
 use Rattle.floyd_pure_formulas.specs.Rows.{extended}
-use Rattle.floyd_pure_formulas.proofs.Likes.{Like, like_back, like_below, truth_like}
-use Rattle.floyd_pure_formulas.proofs.Shapes.{for_all, for_all_fits}
-use Rattle.floyd_pure_formulas.proofs.Rowing.{goals_are, no_goals}
-use Rattle.floyd_pure_formulas.proofs.Substituting.{Instantiated, instance_true, instantiated}
+use Rattle.floyd_pure_formulas.proofs.Going.{itself}
+use Rattle.floyd_pure_formulas.proofs.Likes.{Like, truth_like}
 
 abbrev pair : Binder → List ℕ × Sort
 pair b = (b.name, b.sort)
@@ -55,7 +42,7 @@ not_there x [] h r e = cc
 not_there x (b ∷ bs) h r e = not_there_by (bytes_eq x b.name) b.sort (has_name x bs) (lookup (bytes_eq x) (map pair bs)) r (λ k i. not_there x bs k r i) h e
 
 -- what is found with one binder more is found before, or is it
-found_by : (c : Bool) (sort : Sort) (all some : Option Sort) (P : Type 0) (r : Sort) → (all ≡ Some r → (some ≡ Some r) ⊎ P) → cond c (Some sort) all ≡ Some r → (cond c (Some sort) some ≡ Some r) ⊎ P
+pub found_by : (c : Bool) (sort : Sort) (all some : Option Sort) (P : Type 0) (r : Sort) → (all ≡ Some r → (some ≡ Some r) ⊎ P) → cond c (Some sort) all ≡ Some r → (cond c (Some sort) some ≡ Some r) ⊎ P
 found_by true sort all some P r k e = inl e
 found_by false sort all some P r k e = k e
 
@@ -96,6 +83,15 @@ module _ (context : Context) (env : Env) (x : List ℕ) (s : Sort) (d : Datum) (
       by : (v : List ℕ) (r : Sort) → (lookup (bytes_eq v) (scope_of context) ≡ Some r) ⊎ ((v ≡ x) × (s ≡ r)) → HasSort r ((with_datum env x d).variables v)
       by v r (inl e) = known v r e (bytes_eq v x) refl
       by v r (inr e) = new v r e.0 e.1 (bytes_eq v x) refl
+
+  -- with a datum for a name that is not taken an environment goes on
+  pub goes_on : GoesOn context (unmarked context.mark) env (with_datum env x d)
+  goes_on = record {
+    global = refl;
+    local = refl;
+    variables = λ v r e. sym (like_new v r e);
+    promise = (itself context env).promise;
+  }
 
 -- x means its datum
 pub means_new : (defs : Defs) (env : Env) (x : List ℕ) (s : Sort) (d : Datum) → Means defs (with_datum env x d) (variable x s) d

@@ -1,16 +1,15 @@
 -- What each call answers is what its row says.
-use Rattle.std.proofs.Common.{◌≡◌, ℕ, Bool, true, false, not, List, [], ◌∷◌, Option, Some, None, Result, Ok, Err, refl, sym, ap, subst, ◌∙◌}
+use Rattle.std.proofs.Common.{◌≡◌, ℕ, true, false, List, [], ◌∷◌, Some, None, Result, Err, refl, sym, subst}
 use Rattle.floyd_text.specs.declared.refusal.No.{No}
 use Rattle.floyd_text.specs.declared.refusal.RuleStop.{RuleStop}
-use Rattle.floyd_text.specs.declared.refusal.RuleStop.TheVariants as r
-use Rattle.floyd_text.specs.Gives.{RuleGives, RuleStops}
+use Rattle.floyd_text.specs.Gives.{RuleGives}
 use Rattle.std.specs.Prelude.{length}
 use Rattle.floyd_tree_sorts.specs.declared.sorts.Sort.{Sort}
 use Rattle.floyd_tree.specs.Formulas.{PlainFormula}
 use Rattle.floyd_assert_changes.specs.Changed.{has_name}
 use Rattle.floyd_assert_changes.specs.Substituted.{formula_with}
 use Rattle.floyd_goal.specs.Answers.{IsAnswer}
-use Rattle.floyd_goal.specs.Goals.{intros_first, is_pending, wrong_goal}
+use Rattle.floyd_goal.specs.Goals.{intros_first, is_pending}
 use Rattle.floyd_goal.specs.Sides.{context_of}
 use Rattle.floyd_goal_formulas.specs.Said.{Saying, ThereIs, said}
 use Rattle.floyd_goal_trees.specs.declared.args.Args.{Args}
@@ -19,9 +18,9 @@ use Rattle.floyd_goal_trees.specs.declared.goal.Goal.{Goal}
 use Rattle.floyd_pure_formulas.specs.Destruct.{DestructRow, OfTarget}
 use Rattle.floyd_pure_formulas.specs.HypothesisCases.{HypothesisCases, OfCases, OfExists, Opens, cases_of, in_cases, opened, wrong_names}
 use Rattle.floyd_pure_formulas.specs.Naming.{taken, variable}
-use Rattle.floyd_pure_formulas.specs.Rows.{Answer, OfFound, Unless, named_by, no_such}
+use Rattle.floyd_pure_formulas.specs.Rows.{OfFound, named_by, no_such}
 use Rattle.floyd_pure_formulas.specs.VariableCases.{variable_cases}
-use Rattle.floyd_pure_formulas.proofs.Answering.{answers, given, passes, unless_passes, unless_stops}
+use Rattle.floyd_pure_formulas.proofs.Answering.{given, passes, unless_stops}
 
 -- destruct
 pub destruct_pending : (goal : Goal) (args : Args) → is_pending goal ≡ true → DestructRow goal args (Err intros_first)

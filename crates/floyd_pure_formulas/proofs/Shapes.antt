@@ -1,9 +1,9 @@
 -- The shapes of formulas by what they say at their heads.
-use Rattle.std.proofs.Common.{◌≡◌, ℕ, Bool, true, ◌&&◌, List, [], ◌∷◌, Option, Some, None, refl, sym, ap, subst}
+use Rattle.std.proofs.Common.{◌≡◌, ℕ, Bool, true, ◌&&◌, List, ◌∷◌, Option, Some, None, subst}
 use Rattle.floyd_tree_sorts.specs.declared.connectives.FormulaHead.TheVariants as f
 use Rattle.floyd_tree_sorts.specs.declared.sorts.Sort.{Sort}
 use Rattle.floyd_tree_sorts.proofs.SortLemmas.{both_true}
-use Rattle.floyd_tree.specs.Formulas.{PlainFormula, PlainFormulas, Says, NoFormula, MoreFormulas, listed_formulas, takes_all, well_sorted, all_well_sorted}
+use Rattle.floyd_tree.specs.Formulas.{PlainFormula, PlainFormulas, Says, NoFormula, MoreFormulas, listed_formulas, takes_all, well_sorted}
 use Rattle.floyd_tree.specs.Plain.{Plain, Plains, Done, More, listed}
 use Rattle.floyd_tree.specs.WellSorted.{sorts_of}
 use Rattle.floyd_tree_values.specs.Means.{Defs}

@@ -1,5 +1,5 @@
 -- Terms that may stand for a variable, and what the instance says.
-use Rattle.std.proofs.Common.{◌≡◌, ◌↔◌, ℕ, ◌+◌, ◌<◌, ◌≤◌, ◌^◌, Bool, true, false, ◌&&◌, List, [], ◌∷◌, length, Option, Some, None, Result, Ok, Err, refl, sym, ap, subst, ◌∙◌, cond, arith, leb-true}
+use Rattle.std.proofs.Common.{◌≡◌, ◌↔◌, ℕ, ◌+◌, ◌<◌, ◌≤◌, ◌^◌, Bool, true, false, ◌&&◌, List, [], ◌∷◌, length, Option, Some, None, Result, Ok, Err, refl, ap, subst, ◌∙◌, cond, arith, leb-true}
 use Rattle.std.specs.Prelude.{bytes_eq, option_and_then, nat_le}
 use Rattle.std.specs.Map.{lookup}
 use Rattle.floyd_int.specs.declared.kinds.Value.{Value}
@@ -11,14 +11,13 @@ use Rattle.floyd_tree_sorts.specs.declared.connectives.FormulaHead.TheVariants.{
 use Rattle.floyd_tree_sorts.specs.declared.heads.Head.{Head}
 use Rattle.floyd_tree_sorts.specs.declared.heads.Head.TheVariants.{Variable}
 use Rattle.floyd_tree_sorts.specs.declared.sorts.Sort.{Sort}
-use Rattle.floyd_tree_sorts.specs.Sorts.{same_sort}
 use Rattle.floyd_tree_sorts.specs.Table.{alone, sort_at}
 use Rattle.floyd_tree_sorts.proofs.SortLemmas.{both_true, same_sort_true}
 use Rattle.floyd_tree.specs.Formulas.{PlainFormula, PlainFormulas, Says, NoFormula, MoreFormulas, listed_formulas, formula_height, formula_size, formula_sizes, takes_all, well_sorted, all_well_sorted}
 use Rattle.floyd_tree.specs.Made.{fits}
 use Rattle.floyd_tree.specs.MadeFormulas.{formula_fits}
 use Rattle.floyd_tree.specs.Plain.{Plain, Plains, At, Done, More, height, size, sizes}
-use Rattle.floyd_tree.specs.WellSorted.{sort_of, sorts_of, with_first}
+use Rattle.floyd_tree.specs.WellSorted.{sort_of, sorts_of}
 use Rattle.floyd_tree_values.specs.BuiltIns.{Env}
 use Rattle.floyd_tree_values.specs.Data.{Datum}
 use Rattle.floyd_tree_values.specs.Means.{Defs, Means}
@@ -28,7 +27,7 @@ use Rattle.floyd_truth.specs.Laws.{Changed, IsAfter, nodes}
 use Rattle.floyd_truth.specs.Replace.{HasSortOf, SortsAgree, AllSortsAgree, FormulaSortsAgree, FormulasSortsAgree, changes_below, puts, replaced, replaced_in, replaced_formula, replaced_formulas, variable_as}
 use Rattle.floyd_truth.specs.Truth.{Truth, with_datum}
 use Rattle.floyd_truth.proofs.InChanged.{true_in_changed}
-use Rattle.floyd_assert_changes.specs.Substituted.{formula_with, within_limits}
+use Rattle.floyd_assert_changes.specs.Substituted.{formula_with}
 use Rattle.floyd_goal.specs.Goals.{refusal}
 use Rattle.floyd_goal_formulas.specs.Fits.{Fits, IsAllowed, AreAllowed, scope_below}
 use Rattle.floyd_goal_formulas.proofs.Values.{first_some, sorted}

@@ -1,5 +1,5 @@
 -- What the calls for the cases of a variable answer is what the definitions say.
-use Rattle.std.proofs.Common.{◌≡◌, ℕ, Bool, true, false, cond, List, [], ◌∷◌, map, length, Option, Some, None, Result, Ok, Err, refl, sym, ap, subst, ◌∙◌}
+use Rattle.std.proofs.Common.{◌≡◌, ℕ, Bool, true, false, cond, List, [], ◌∷◌, length, Some, None, Result, Err, refl, sym, ap, subst, ◌∙◌}
 use Rattle.std.specs.Prelude.{is_some, nat_eq}
 use Rattle.std.proofs.lemmas.Bool.Decides.{Decides-eqb}
 use Rattle.floyd_text.specs.declared.refusal.RuleStop.{RuleStop}
@@ -7,16 +7,14 @@ use Rattle.floyd_text.specs.Gives.{RuleGives}
 use Rattle.floyd_tree_sorts.specs.declared.sorts.Sort.{Sort}
 use Rattle.floyd_truth.specs.Replace.{puts}
 use Rattle.floyd_assert_trees.specs.declared.binder.Binder.{Binder}
-use Rattle.floyd_goal.specs.Goals.{wrong_goal}
 use Rattle.floyd_goal.specs.Sides.{context_of}
 use Rattle.floyd_goal_changes.specs.Changed.{GoalSortsAgree}
-use Rattle.floyd_goal_trees.specs.declared.args.Args.{Args}
 use Rattle.floyd_goal_trees.specs.declared.goal.Goal.{Goal}
 use Rattle.floyd_pure_formulas.specs.declared.constructors.Constructors.{Constructors}
 use Rattle.floyd_pure_formulas.specs.ConstructorsClauses.{AreOf, IsBuilt, TakesIn}
 use Rattle.floyd_pure_formulas.specs.HypothesisCases.{wrong_names}
 use Rattle.floyd_pure_formulas.specs.Naming.{taken}
-use Rattle.floyd_pure_formulas.specs.VariableCases.{binders, both_cases, built, constructors_of, first_taken, of_binders, of_constructors, sort_named, unless_taken, variable_cases, zipped}
+use Rattle.floyd_pure_formulas.specs.VariableCases.{binders, both_cases, built, first_taken, of_binders, of_constructors, unless_taken, zipped}
 
 -- variables of as many names as there are arguments
 record Counted (names : List (List ℕ)) (sorts : List Sort) (new : List Binder) : Type 0 where

@@ -1,5 +1,5 @@
 -- A goal is true where it is for each constructor in the place of a variable.
-use Rattle.std.proofs.Common.{◌≡◌, ◌⊎◌, inl, inr, ℕ, zero, suc, Bool, true, false, ◌||◌, cond, List, [], ◌∷◌, ◌++◌, map, length, All, Option, Some, None, Result, Ok, Err, refl, sym, ap, subst, ◌∙◌, arith, true≢false}
+use Rattle.std.proofs.Common.{◌≡◌, ◌⊎◌, inl, inr, ℕ, Bool, true, false, ◌||◌, cond, List, [], ◌∷◌, ◌++◌, map, length, All, Option, Some, None, Result, Ok, Err, refl, sym, ap, subst, ◌∙◌, true≢false}
 use Rattle.std.specs.Prelude.{bytes_eq, nat_eq, option_and_then}
 use Rattle.std.specs.Map.{lookup}
 use Rattle.std.proofs.lemmas.Bool.Decides.{Decides-eqb}
@@ -9,9 +9,9 @@ use Rattle.floyd_text.specs.declared.refusal.No.{No}
 use Rattle.floyd_tree_sorts.specs.declared.heads.Head.TheVariants as h
 use Rattle.floyd_tree_sorts.specs.declared.operators.Operator.TheVariants as o
 use Rattle.floyd_tree_sorts.specs.declared.sorts.Sort.{Sort}
-use Rattle.floyd_tree_sorts.specs.Sorts.{item_sort, list_sort, node_sort, tree_sort}
+use Rattle.floyd_tree_sorts.specs.Sorts.{list_sort, tree_sort}
 use Rattle.floyd_tree.specs.Made.{fits}
-use Rattle.floyd_tree.specs.Plain.{Plain, At, Done, More}
+use Rattle.floyd_tree.specs.Plain.{Plain}
 use Rattle.floyd_tree.specs.WellSorted.{sort_of}
 use Rattle.floyd_tree_values.specs.BuiltIns.{Env}
 use Rattle.floyd_tree_values.specs.Data.{Datum, Data, DataTree, Number, Val, Seq, Tree, Pair, Empty, Item, Leaf, Node, AllIn, HasSort, data_of, listed}
@@ -30,23 +30,21 @@ use Rattle.floyd_goal.specs.Goals.{wrong_goal}
 use Rattle.floyd_goal.specs.Sides.{context_of}
 use Rattle.floyd_goal_formulas.specs.Fits.{Fits}
 use Rattle.floyd_goal_truth.specs.Scopes.{AllFit, scope_of}
-use Rattle.floyd_goal_truth.specs.Truths.{IsTrueGoal}
+use Rattle.floyd_goal_truth.specs.Truths.{Under}
 use Rattle.floyd_pure_formulas.specs.declared.constructors.Constructors.{Constructors}
-use Rattle.floyd_pure_formulas.specs.Holds.{Specs, AreTrue, IsTrue}
-use Rattle.floyd_pure_formulas.specs.Naming.{taken, variable}
-use Rattle.floyd_pure_formulas.specs.VariableCases.{binders, both_cases, built, case_with, constructors_of, first_taken, of_binders, of_constructors, of_either, of_list, of_tree, sort_named, unless_taken, variable_cases, without, zipped}
+use Rattle.floyd_pure_formulas.specs.Holds.{Specs}
+use Rattle.floyd_pure_formulas.specs.Keeps.{AreTrueFrom, IsTrueFrom}
+use Rattle.floyd_pure_formulas.specs.Naming.{variable}
+use Rattle.floyd_pure_formulas.specs.VariableCases.{binders, built, case_with, constructors_of, first_taken, of_binders, of_constructors, of_list, of_tree, sort_named, unless_taken, variable_cases, without, zipped}
 use Rattle.floyd_pure_formulas.proofs.Building.{Built, lists, trees, built_by, list_is, three, tree_is, two}
 use Rattle.floyd_pure_formulas.proofs.Exchanged.{case_true, pair}
+use Rattle.floyd_pure_formulas.proofs.NewVariables.{found_by}
 use Rattle.floyd_pure_formulas.proofs.Rowing.{goals_are, no_goals}
 
 nat_eq_is : (m n : ℕ) → nat_eq m n ≡ true → m ≡ n
 nat_eq_is m n e = (Decides-eqb m n).0 e
 
 -- what is found in a list with others behind it
-found_by : (c : Bool) (sort : Sort) (all some : Option Sort) (P : Type 0) (r : Sort) → (all ≡ Some r → (some ≡ Some r) ⊎ P) → cond c (Some sort) all ≡ Some r → (cond c (Some sort) some ≡ Some r) ⊎ P
-found_by true sort all some P r k e = inl e
-found_by false sort all some P r k e = k e
-
 found_in : (xs bs : List Binder) (v : List ℕ) (r : Sort) → lookup (bytes_eq v) (map pair (xs ++ bs)) ≡ Some r → (lookup (bytes_eq v) (map pair xs) ≡ Some r) ⊎ (lookup (bytes_eq v) (map pair bs) ≡ Some r)
 found_in [] bs v r e = inr e
 found_in (a ∷ xs) bs v r e =
@@ -148,9 +146,9 @@ module _ (defs : Defs) (specs : Specs) (pure : Pure) (x : List ℕ) (env : Env) 
       by v r (inr e) = absurd cc
 
   -- where the variable is the constructor without arguments
-  empty_true : (sort : Sort) (t : Plain) (made : Goal) → lookup (bytes_eq x) (scope_of pure.context) ≡ Some sort → sort_of t ≡ Some sort → fits t ≡ true → case_with (g.Pure pure) x t [] ≡ Ok made → IsTrue defs specs made → Means defs env t (env.variables x) → Truth defs specs env pure.target
+  empty_true : (sort : Sort) (t : Plain) (made : Goal) → lookup (bytes_eq x) (scope_of pure.context) ≡ Some sort → sort_of t ≡ Some sort → fits t ≡ true → case_with (g.Pure pure) x t [] ≡ Ok made → IsTrueFrom defs specs pure.context env made → Means defs env t (env.variables x) → Truth defs specs env pure.target
   empty_true sort t made here sorted small row true' means =
-      case_true defs specs pure x sort t [] made env env.variables hyps_fit fit hyps here sorted small row true' (λ v r i k. refl) means suits_less
+      case_true defs specs pure x sort t [] made env env.variables hyps_fit fit hyps here sorted small row true' (λ v r i. refl) means suits_less
 
   -- data that are put for new variables suit the new context, where they have their sorts
   suits_new : (new : List Binder) (f : List ℕ → Datum) → ((v : List ℕ) (r : Sort) → lookup (bytes_eq v) (scope_of pure.context) ≡ Some r → env.variables v ≡ f v) → ((v : List ℕ) (r : Sort) → lookup (bytes_eq v) (map pair new) ≡ Some r → HasSort r (f v)) → Suits (map pair (without x pure.context.variables ++ new)) (giving env f)
@@ -214,9 +212,9 @@ module _ (defs : Defs) (specs : Specs) (pure : Pure) (x : List ℕ) (env : Env) 
           subst (Means defs (giving env f) (built (of_list s) (first ∷ second ∷ []))) whole
           (built_in {head = h.Operator o.Cons} {s = list_sort s} refl ((list_is s).sorted (y ∷ z ∷ []) refl) (more (means_variable defs env f y s item f_y) (more (means_variable defs env f z (list_sort s) (Seq rest) f_z) none)))
 
-      cons_true : (made : Goal) → case_with (g.Pure pure) x (built (of_list s) (first ∷ second ∷ [])) (first ∷ second ∷ []) ≡ Ok made → IsTrue defs specs made → Truth defs specs env pure.target
+      cons_true : (made : Goal) → case_with (g.Pure pure) x (built (of_list s) (first ∷ second ∷ [])) (first ∷ second ∷ []) ≡ Ok made → IsTrueFrom defs specs pure.context env made → Truth defs specs env pure.target
       cons_true made row true' =
-          case_true defs specs pure x (list_sort s) (built (of_list s) (first ∷ second ∷ [])) (first ∷ second ∷ []) made env f hyps_fit fit hyps here ((list_is s).sorted (y ∷ z ∷ []) refl) ((list_is s).fitting (y ∷ z ∷ []) refl) row true' (λ v r i k. kept v r i) means_cons (suits_new (first ∷ second ∷ []) f kept own_sorts)
+          case_true defs specs pure x (list_sort s) (built (of_list s) (first ∷ second ∷ [])) (first ∷ second ∷ []) made env f hyps_fit fit hyps here ((list_is s).sorted (y ∷ z ∷ []) refl) ((list_is s).fitting (y ∷ z ∷ []) refl) row true' kept means_cons (suits_new (first ∷ second ∷ []) f kept own_sorts)
 
   module _ (s : Sort) (y z w : List ℕ) (left : DataTree) (item : Datum) (right : DataTree) (is : env.variables x ≡ Tree (Node left item right)) (has : AllIn (HasSort s) left × HasSort s item × AllIn (HasSort s) right) (here : lookup (bytes_eq x) (scope_of pure.context) ≡ Some (tree_sort s)) where
     abbrev of_left : Binder
@@ -292,12 +290,12 @@ module _ (defs : Defs) (specs : Specs) (pure : Pure) (x : List ℕ) (env : Env) 
           subst (Means defs (giving env at_third) (built (of_tree s) all_three)) (sym is)
           (built_in {head = h.Operator o.Node} {s = tree_sort s} refl ((tree_is s).sorted (y ∷ z ∷ w ∷ []) refl) (more (means_variable defs env at_third y (tree_sort s) (Tree left) is_y) (more (means_variable defs env at_third z s item is_z) (more (means_variable defs env at_third w (tree_sort s) (Tree right) is_w) none))))
 
-      node_true : (made : Goal) → case_with (g.Pure pure) x (built (of_tree s) all_three) all_three ≡ Ok made → IsTrue defs specs made → Truth defs specs env pure.target
+      node_true : (made : Goal) → case_with (g.Pure pure) x (built (of_tree s) all_three) all_three ≡ Ok made → IsTrueFrom defs specs pure.context env made → Truth defs specs env pure.target
       node_true made row true' =
-          case_true defs specs pure x (tree_sort s) (built (of_tree s) all_three) all_three made env at_third hyps_fit fit hyps here ((tree_is s).sorted (y ∷ z ∷ w ∷ []) refl) ((tree_is s).fitting (y ∷ z ∷ w ∷ []) refl) row true' (λ v r i k. all_kept v r i) means_node (suits_new all_three at_third all_kept all_sorts)
+          case_true defs specs pure x (tree_sort s) (built (of_tree s) all_three) all_three made env at_third hyps_fit fit hyps here ((tree_is s).sorted (y ∷ z ∷ w ∷ []) refl) ((tree_is s).fitting (y ∷ z ∷ w ∷ []) refl) row true' all_kept means_node (suits_new all_three at_third all_kept all_sorts)
 
   -- by the datum of a list
-  list_true : (s : Sort) (names : List (List ℕ)) (a b : Goal) → length names ≡ 2 → first_taken pure.context.variables [] (zipped names (of_list s).sorts) ≡ None → lookup (bytes_eq x) (scope_of pure.context) ≡ Some (list_sort s) → case_with (g.Pure pure) x (of_list s).empty [] ≡ Ok a → case_with (g.Pure pure) x (built (of_list s) (zipped names (of_list s).sorts)) (zipped names (of_list s).sorts) ≡ Ok b → IsTrue defs specs a → IsTrue defs specs b → (d : Datum) → env.variables x ≡ d → HasSort (list_sort s) d → Truth defs specs env pure.target
+  list_true : (s : Sort) (names : List (List ℕ)) (a b : Goal) → length names ≡ 2 → first_taken pure.context.variables [] (zipped names (of_list s).sorts) ≡ None → lookup (bytes_eq x) (scope_of pure.context) ≡ Some (list_sort s) → case_with (g.Pure pure) x (of_list s).empty [] ≡ Ok a → case_with (g.Pure pure) x (built (of_list s) (zipped names (of_list s).sorts)) (zipped names (of_list s).sorts) ≡ Ok b → IsTrueFrom defs specs pure.context env a → IsTrueFrom defs specs pure.context env b → (d : Datum) → env.variables x ≡ d → HasSort (list_sort s) d → Truth defs specs env pure.target
   list_true s names a b count new here e k p q (Seq Empty) is has =
       empty_true (list_sort s) (of_list s).empty a here refl refl e p
       (subst (Means defs env (of_list s).empty) (sym is) (built_in {head = h.Nil s} {s = list_sort s} refl refl none))
@@ -315,7 +313,7 @@ module _ (defs : Defs) (specs : Specs) (pure : Pure) (x : List ℕ) (env : Env) 
   list_true s names a b count new here e k p q (Pair l r) is has = absurd has
 
   -- by the datum of a tree
-  tree_true : (s : Sort) (names : List (List ℕ)) (a b : Goal) → length names ≡ 3 → first_taken pure.context.variables [] (zipped names (of_tree s).sorts) ≡ None → lookup (bytes_eq x) (scope_of pure.context) ≡ Some (tree_sort s) → case_with (g.Pure pure) x (of_tree s).empty [] ≡ Ok a → case_with (g.Pure pure) x (built (of_tree s) (zipped names (of_tree s).sorts)) (zipped names (of_tree s).sorts) ≡ Ok b → IsTrue defs specs a → IsTrue defs specs b → (d : Datum) → env.variables x ≡ d → HasSort (tree_sort s) d → Truth defs specs env pure.target
+  tree_true : (s : Sort) (names : List (List ℕ)) (a b : Goal) → length names ≡ 3 → first_taken pure.context.variables [] (zipped names (of_tree s).sorts) ≡ None → lookup (bytes_eq x) (scope_of pure.context) ≡ Some (tree_sort s) → case_with (g.Pure pure) x (of_tree s).empty [] ≡ Ok a → case_with (g.Pure pure) x (built (of_tree s) (zipped names (of_tree s).sorts)) (zipped names (of_tree s).sorts) ≡ Ok b → IsTrueFrom defs specs pure.context env a → IsTrueFrom defs specs pure.context env b → (d : Datum) → env.variables x ≡ d → HasSort (tree_sort s) d → Truth defs specs env pure.target
   tree_true s names a b count new here e k p q (Tree Leaf) is has =
       empty_true (tree_sort s) (of_tree s).empty a here refl refl e p
       (subst (Means defs env (of_tree s).empty) (sym is) (built_in {head = h.Leaf s} {s = tree_sort s} refl refl none))
@@ -378,20 +376,20 @@ sorted_by goal args goals row = by (sort_named args.name (context_of goal).varia
     by (Some sort) e row = constructed sort e (constructors_of sort) refl row
     by None e row = absurd (no_goals goals wrong_goal row)
 
-module _ (defs : Defs) (specs : Specs) (pure : Pure) (args : Args) (goals : List Goal) (hyps_fit : AllFit defs pure.context pure.context.hypotheses) (fit : Fits defs (scope_of pure.context) pure.target) (all : AreTrue defs specs goals) (env : Env) (suits : Suits (scope_of pure.context) env) (hyps : AllTrue defs specs env pure.context.hypotheses) where
+module _ (defs : Defs) (specs : Specs) (pure : Pure) (args : Args) (goals : List Goal) (hyps_fit : AllFit defs pure.context pure.context.hypotheses) (fit : Fits defs (scope_of pure.context) pure.target) (env : Env) (all : AreTrueFrom defs specs pure.context env goals) (suits : Suits (scope_of pure.context) env) (hyps : AllTrue defs specs env pure.context.hypotheses) where
   by_constructors : (sort : Sort) (c : Constructors) → sort_named args.name pure.context.variables ≡ Some sort → Gone (g.Pure pure) args.name args.names c goals → Built sort c → Truth defs specs env pure.target
   by_constructors sort c is w0 (lists r e k) =
       let w : Gone (g.Pure pure) args.name args.names (of_list r) goals = subst (λ c. Gone (g.Pure pure) args.name args.names c goals) k w0 in
       let there : lookup (bytes_eq args.name) (scope_of pure.context) ≡ Some (list_sort r) = sort_found args.name pure.context.variables sort is ∙ ap (λ q. Some q) e in
-      let t : AreTrue defs specs (w.empty ∷ w.full ∷ []) = subst (AreTrue defs specs) w.goals' all in
+      let t : AreTrueFrom defs specs pure.context env (w.empty ∷ w.full ∷ []) = subst (AreTrueFrom defs specs pure.context env) w.goals' all in
       list_true defs specs pure args.name env hyps_fit fit suits hyps r args.names w.empty w.full w.count w.new there w.empty_is w.full_is t.0 t.1.0 (env.variables args.name) refl (suits.each args.name (list_sort r) there)
   by_constructors sort c is w0 (trees r e k) =
       let w : Gone (g.Pure pure) args.name args.names (of_tree r) goals = subst (λ c. Gone (g.Pure pure) args.name args.names c goals) k w0 in
       let there : lookup (bytes_eq args.name) (scope_of pure.context) ≡ Some (tree_sort r) = sort_found args.name pure.context.variables sort is ∙ ap (λ q. Some q) e in
-      let t : AreTrue defs specs (w.empty ∷ w.full ∷ []) = subst (AreTrue defs specs) w.goals' all in
+      let t : AreTrueFrom defs specs pure.context env (w.empty ∷ w.full ∷ []) = subst (AreTrueFrom defs specs pure.context env) w.goals' all in
       tree_true defs specs pure args.name env hyps_fit fit suits hyps r args.names w.empty w.full w.count w.new there w.empty_is w.full_is t.0 t.1.0 (env.variables args.name) refl (suits.each args.name (tree_sort r) there)
 
-pub variable_true : (defs : Defs) (specs : Specs) (pure : Pure) (args : Args) (goals : List Goal) → AllFit defs pure.context pure.context.hypotheses → Fits defs (scope_of pure.context) pure.target → Ok goals ≡ variable_cases (g.Pure pure) args → AreTrue defs specs goals → IsTrueGoal defs specs pure
-variable_true defs specs pure args goals hyps_fit fit row all env suits hyps =
+pub variable_true : (defs : Defs) (specs : Specs) (pure : Pure) (args : Args) (goals : List Goal) → AllFit defs pure.context pure.context.hypotheses → Fits defs (scope_of pure.context) pure.target → Ok goals ≡ variable_cases (g.Pure pure) args → Under defs specs pure.context (λ env. AreTrueFrom defs specs pure.context env goals → Truth defs specs env pure.target)
+variable_true defs specs pure args goals hyps_fit fit row env suits hyps all =
     let s = sorted_by (g.Pure pure) args goals row in
-    by_constructors defs specs pure args goals hyps_fit fit all env suits hyps s.sort s.c s.is s.went (built_by s.sort s.c s.of')
+    by_constructors defs specs pure args goals hyps_fit fit env all suits hyps s.sort s.c s.is s.went (built_by s.sort s.c s.of')

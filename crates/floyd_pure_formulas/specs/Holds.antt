@@ -1,4 +1,4 @@
--- That a row keeps truth: a goal is true where all goals that its row makes are.
+-- What a command is given, and rows that add formulas or close a goal. That a row keeps truth stands in Keeps.
 use Rattle.std.specs.Prelude.{◌≡◌, ℕ, Bool, true, List, [], ◌∷◌, ◌++◌, map, All, Option, Some, None, Ok}
 use Rattle.floyd_int.specs.declared.kinds.Value.{Value}
 use Rattle.floyd_tree.specs.Formulas.{PlainFormula}
@@ -13,28 +13,16 @@ use Rattle.floyd_tree_values.specs.Rules as ru
 use Rattle.floyd_goal_trees.specs.declared.args.Args.{Args}
 use Rattle.floyd_goal_trees.specs.declared.context.Context.{Context}
 use Rattle.floyd_goal_trees.specs.declared.goal.Goal.{Goal}
-use Rattle.floyd_goal_trees.specs.declared.goal.Goal.TheVariants as g
-use Rattle.floyd_goal_trees.specs.declared.goal.Pure.{Pure}
 use Rattle.floyd_goal.specs.Goals.{pure_goal}
 use Rattle.floyd_goal.specs.Sides.{context_of}
 use Rattle.floyd_goal_formulas.specs.Fits.{Fits}
 use Rattle.floyd_goal_truth.specs.Scopes.{AllFit, scope_of}
-use Rattle.floyd_goal_truth.specs.Truths.{IsTrueGoal, Under}
+use Rattle.floyd_goal_truth.specs.Truths.{Under}
 use Rattle.floyd_pure_formulas.specs.Rows.{Row, with_more}
 
 -- `specs` tells which values are functions that were declared with the SPEC of a name
 abbrev pub Specs : Type 0
 Specs = List ℕ → Value → Bool
-
--- of goals of another kind nothing is asked
-abbrev pub IsTrue : Defs → Specs → Goal → Type 0
-IsTrue defs specs (g.Run run) = Unit {0}
-IsTrue defs specs (g.Entail entail) = Unit {0}
-IsTrue defs specs (g.Pure pure) = IsTrueGoal defs specs pure
-
-abbrev pub AreTrue : Defs → Specs → List Goal → Type 0
-AreTrue defs specs [] = Unit {0}
-AreTrue defs specs (goal ∷ goals) = IsTrue defs specs goal × AreTrue defs specs goals
 
 -- a term that a command is given is well formed, and within the limits
 abbrev pub TermFits : Defs → Context → Plain → Type 0
@@ -48,12 +36,6 @@ FormulaFits defs context (Some f) = Fits defs (scope_of context) f
 pub record ArgsFit (defs : Defs) (context : Context) (args : Args) : Type 0 where
   pub terms : All (TermFits defs context) args.terms
   pub formula : FormulaFits defs context args.formula
-
--- The row keeps truth of Pure goals: where the FUNs keep the rules, and the goal and what the command is given are well
--- formed, the goal is true where all goals that the row makes are.
-abbrev pub Holds : Row → Type 0
-Holds Row =
-    (defs : Defs) (specs : Specs) (pure : Pure) (args : Args) (goals : List Goal) → DefsKeep defs → AllFit defs pure.context pure.context.hypotheses → Fits defs (scope_of pure.context) pure.target → ArgsFit defs pure.context args → Row (g.Pure pure) args (Ok goals) → AreTrue defs specs goals → IsTrueGoal defs specs pure
 
 -- The goals ask for a proof of formulas and, behind them, there is the goal with formulas more. Under all data under which
 -- the hypotheses of the goal are true, those that are added are so where those that are asked for are.

@@ -1,5 +1,5 @@
 -- The instance of a quantified formula at the term that a command is given.
-use Rattle.std.specs.Prelude.{◌≡◌, ℕ, ◌+◌, Bool, false, if◌then◌else◌, List, [], ◌∷◌, length, Option, Some, None, Result, Ok, Err}
+use Rattle.std.specs.Prelude.{ℕ, ◌+◌, Bool, false, if◌then◌else◌, List, [], ◌∷◌, length, Option, Some, None, Result, Ok, Err}
 use Rattle.floyd_text.specs.declared.code.Code.TheVariants as c
 use Rattle.floyd_text.specs.declared.refusal.No.{No}
 use Rattle.floyd_text.specs.declared.refusal.Shown.TheVariants.{Count}

@@ -1,6 +1,6 @@
 -- How the rows of commands are written. A row says of a goal, of what a command is given and of an answer whether it is the
 -- right one: the goals that the command makes, or the refusal of the first condition that fails.
-use Rattle.std.specs.Prelude.{◌≡◌, ◌⊎◌, Bool, true, false, List, [], ◌∷◌, ◌++◌, Option, Some, None, Result, Ok, Err}
+use Rattle.std.specs.Prelude.{◌≡◌, ◌⊎◌, List, [], ◌∷◌, ◌++◌, Option, Some, None, Result, Ok, Err}
 use Rattle.floyd_text.specs.declared.refusal.No.{No}
 use Rattle.floyd_tree.specs.Formulas.{PlainFormula}
 use Rattle.floyd_assert_trees.specs.declared.binder.Binder.{Binder}

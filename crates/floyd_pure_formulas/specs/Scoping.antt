@@ -1,5 +1,5 @@
 -- Goals in which variables have the sorts of their binders.
-use Rattle.std.specs.Prelude.{◌≡◌, ℕ, List, [], ◌∷◌, Some}
+use Rattle.std.specs.Prelude.{◌≡◌, ℕ, List, Some}
 use Rattle.floyd_tree_sorts.specs.declared.sorts.Sort.{Sort}
 use Rattle.floyd_tree_values.specs.Means.{Defs}
 use Rattle.floyd_goal.specs.Sides.{context_of}

@@ -1,5 +1,5 @@
 -- The cases of a variable of a list or of a tree: a goal for each constructor, where the variable is replaced everywhere.
-use Rattle.std.specs.Prelude.{ℕ, ◌||◌, if◌then◌else◌, List, [], ◌∷◌, ◌++◌, map, length, nat_eq, Option, Some, None, option_and_then, bytes_eq, Result, Ok, Err}
+use Rattle.std.specs.Prelude.{ℕ, ◌||◌, if◌then◌else◌, List, [], ◌∷◌, ◌++◌, map, length, nat_eq, Option, Some, None, option_and_then, bytes_eq, Result, Err}
 use Rattle.floyd_text.specs.declared.refusal.No.{No}
 use Rattle.floyd_tree_sorts.specs.declared.heads.Head.TheVariants.{Leaf, Nil, Operator}
 use Rattle.floyd_tree_sorts.specs.declared.operators.Operator.TheVariants.{Cons, Node}

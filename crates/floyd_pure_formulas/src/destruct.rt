@@ -1,7 +1,7 @@
 ghost use Rattle.floyd_assert_trees.specs.Meanings.{value_defs};
 ghost use Rattle.floyd_goal.specs.Answers.{IsAnswer};
 ghost use Rattle.floyd_pure_formulas.specs.Destruct.{DestructRow};
-ghost use Rattle.floyd_pure_formulas.specs.Holds.{Holds};
+ghost use Rattle.floyd_pure_formulas.specs.Keeps.{KeepsTruth};
 ghost use Rattle.floyd_pure_formulas.specs.Scoping.{IsScoped};
 ghost use Rattle.floyd_pure_formulas.specs.Splits.{HypothesisSplits};
 
@@ -48,5 +48,5 @@ pub fn destruct_splits()
 
 /// A goal is true where it is in each case.
 pub fn destruct_holds()
-    ensures { Holds DestructRow }
+    ensures { KeepsTruth DestructRow }
 {}

@@ -1,7 +1,6 @@
 -- A goal that is closed by a certificate is true.
-use Rattle.std.proofs.Common.{◌≡◌, ℕ, Bool, true, false, cond, List, [], ◌∷◌, Option, Some, None, Result, Ok, Err, refl, sym, ap, subst, ◌∙◌, true≢false}
+use Rattle.std.proofs.Common.{◌≡◌, ℕ, Bool, true, false, List, [], ◌∷◌, Option, Some, None, Result, Ok, Err, refl, sym, ap, subst, ◌∙◌, true≢false}
 use Rattle.std.specs.Prelude.{◌&&◌, not, length, nat_eq}
-use Rattle.floyd_int.specs.declared.kinds.Value.{Value}
 use Rattle.floyd_text.specs.declared.refusal.No.{No}
 use Rattle.floyd_tree_sorts.specs.declared.connectives.FormulaHead.TheVariants as f
 use Rattle.floyd_tree_sorts.specs.declared.sorts.Sort.{Sort, Z}
@@ -22,7 +21,7 @@ use Rattle.floyd_goal_formulas.specs.Said.{Saying, Equation, Implication, Either
 use Rattle.floyd_goal_formulas.proofs.Values.{first_some, is_z_is, sorted}
 use Rattle.floyd_goal_trees.specs.declared.goal.Goal.{Goal}
 use Rattle.floyd_goal_truth.specs.Scopes.{scope_of}
-use Rattle.floyd_pure_formulas.specs.Holds.{Holds}
+use Rattle.floyd_pure_formulas.specs.Keeps.{KeepsTruth}
 use Rattle.floyd_pure_laws.specs.Lia.{LiaRow, closed, may_be_certified}
 use Rattle.floyd_pure_formulas.specs.Rows.{Unless}
 
@@ -87,7 +86,7 @@ certified_by true (Ok done) goals e = (refl, refl)
 certified_by true (Err refusal) goals e = absurd cc
 certified_by false answer goals e = absurd cc
 
-pub lia_true : Holds LiaRow
-lia_true defs specs pure args goals keeps hypotheses target fit row all env suits hyps =
+pub lia_true : KeepsTruth LiaRow
+lia_true defs specs pure args goals keeps hypotheses target fit row env suits hyps proved =
     let by = certified_by (may_be_certified (said pure.target)) (certified pure.context.hypotheses pure.target args.weights) goals row in
     hold defs specs (scope_of pure.context) env pure.context.hypotheses pure.target args.weights keeps suits (is_target defs (scope_of pure.context) pure.target target by.0) by.1 hyps

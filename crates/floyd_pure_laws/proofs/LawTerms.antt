@@ -1,15 +1,14 @@
 -- What a law says of well-formed terms is well formed.
 use Rattle.std.proofs.Common.{◌≡◌, ℕ, zero, suc, Bool, true, false, cond, List, [], ◌∷◌, ◌++◌, map, Option, Some, None, Result, Ok, Err, All, refl, sym, ap, subst, ◌∙◌}
-use Rattle.std.specs.Prelude.{◌&&◌, nat_eq, length, option_and_then, get_or, pos}
+use Rattle.std.specs.Prelude.{nat_eq, length, option_and_then, get_or, pos}
 use Rattle.std.specs.Option.{option_or}
 use Rattle.std.proofs.lemmas.List.Elements.{All-cons, All-nil, All-head, All-tail}
 use Rattle.floyd_text.specs.declared.refusal.No.{No}
 use Rattle.floyd_tree_sorts.specs.declared.heads.Head.TheVariants as h
 use Rattle.floyd_tree_sorts.specs.declared.sorts.Sort.{Sort}
-use Rattle.floyd_tree_sorts.proofs.SortLemmas.{both_true}
 use Rattle.floyd_tree.specs.declared.stop.MakeStop.{MakeStop}
 use Rattle.floyd_tree.specs.declared.stop.MakeStop.TheVariants as m
-use Rattle.floyd_tree.specs.Formulas.{PlainFormula, PlainFormulas, Says, NoFormula, MoreFormulas, formulas, well_sorted, all_well_sorted}
+use Rattle.floyd_tree.specs.Formulas.{PlainFormula, Says, formulas, well_sorted}
 use Rattle.floyd_tree.specs.Made.{faults}
 use Rattle.floyd_tree.specs.MadeFormulas.{formula_fits, formula_fault, formula_faults, formula_fault_at}
 use Rattle.floyd_tree.specs.Plain.{Plain, Plains, At, Done, plains}
@@ -23,11 +22,11 @@ use Rattle.floyd_listlaw.specs.declared.heads.LawHead.{LawHead}
 use Rattle.floyd_listlaw.specs.declared.heads.LawHead.TheVariants as lh
 use Rattle.floyd_listlaw.specs.declared.instance.Law.{Law}
 use Rattle.floyd_listlaw.specs.declared.list_law.ListLaw.{ListLaw}
-use Rattle.floyd_listlaw.specs.Instances.{instance, by_law, by_row, in_sort, within, says, formulas_in, fixed_by}
+use Rattle.floyd_listlaw.specs.Instances.{instance, by_law, in_sort, within, says, formulas_in, fixed_by}
 use Rattle.floyd_listlaw.specs.Laws.{IsTerm}
 use Rattle.floyd_listlaw.specs.Names.{law_named}
-use Rattle.floyd_listlaw.specs.Table.{Row, row}
-use Rattle.floyd_listlaw.specs.Terms.{LawTerm, LawTerms, Argument, Node, NoTerm, Terms, LawFormula, LawFormulas, Claim, NoClaim, Claims, argument, form_head, formula_with, formulas_with, head_with, term_with, terms_with}
+use Rattle.floyd_listlaw.specs.Table.{row}
+use Rattle.floyd_listlaw.specs.Terms.{LawTerm, LawTerms, Argument, Node, NoTerm, Terms, LawFormula, LawFormulas, Claim, NoClaim, Claims, form_head, formula_with, formulas_with, head_with, term_with, terms_with}
 
 module _ (defs : Defs) (scope : Scope) where
   same_scope : (form : LawForm) → scope_below (form_head form) scope ≡ scope

@@ -1,5 +1,5 @@
 -- What each call answers is what its row says.
-use Rattle.std.proofs.Common.{◌≡◌, ℕ, Bool, true, false, not, List, [], Result, Ok, Err, refl, sym, ap, subst}
+use Rattle.std.proofs.Common.{◌≡◌, true, false, not, List, [], Result, Ok, Err, refl, sym, ap, subst}
 use Rattle.floyd_text.specs.declared.refusal.No.{No}
 use Rattle.floyd_text.specs.declared.refusal.RuleStop.{RuleStop}
 use Rattle.floyd_text.specs.declared.refusal.RuleStop.TheVariants as r
@@ -14,7 +14,6 @@ use Rattle.floyd_goal_formulas.specs.Said.{said}
 use Rattle.floyd_goal_trees.specs.declared.args.Args.{Args}
 use Rattle.floyd_goal_trees.specs.declared.goal.Goal.{Goal}
 use Rattle.floyd_goal_trees.specs.declared.goal.Pure.{Pure}
-use Rattle.floyd_pure_formulas.specs.Rows.{Answer}
 use Rattle.floyd_pure_formulas.proofs.Answering.{passes, unless_passes, unless_stops}
 use Rattle.floyd_pure_laws.specs.ByLaw.{ByLaw, LawRow}
 use Rattle.floyd_pure_laws.specs.Lia.{Certifies, closed, may_be_certified}

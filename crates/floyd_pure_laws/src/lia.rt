@@ -1,7 +1,7 @@
 ghost use Rattle.std.specs.Prelude.{◌≡◌};
 ghost use Rattle.floyd_goal.specs.Answers.{IsAnswer};
 ghost use Rattle.floyd_goal_formulas.specs.Said.{said as said_lem};
-ghost use Rattle.floyd_pure_formulas.specs.Holds.{Holds};
+ghost use Rattle.floyd_pure_formulas.specs.Keeps.{KeepsTruth};
 ghost use Rattle.floyd_pure_laws.specs.Lia.{Certifies, LiaRow, may_be_certified};
 
 use floyd_arith::check_certificate;
@@ -59,5 +59,5 @@ pub fn do_lia<L: Ledger>(
 
 /// A goal that is closed is true.
 pub fn lia_holds()
-    ensures { Holds LiaRow }
+    ensures { KeepsTruth LiaRow }
 {}

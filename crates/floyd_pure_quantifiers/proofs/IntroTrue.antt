@@ -13,7 +13,6 @@ use Rattle.floyd_truth.specs.Truth.{Truth, AllTrue, with_datum}
 use Rattle.floyd_truth.proofs.OneTruth.{put}
 use Rattle.floyd_assert_changes.specs.Changed.{has_name}
 use Rattle.floyd_assert_changes.specs.Substituted.{formula_with}
-use Rattle.floyd_goal_trees.specs.Contexts.{unmarked}
 use Rattle.floyd_goal_trees.specs.declared.context.Context.{Context}
 use Rattle.floyd_goal_trees.specs.declared.goal.Goal.{Goal}
 use Rattle.floyd_goal.specs.Goals.{refusal}
@@ -23,26 +22,17 @@ use Rattle.floyd_goal_formulas.proofs.Sayings.{SaidTrue, said_truth}
 use Rattle.floyd_goal_truth.specs.Scopes.{AllFit, scope_of}
 use Rattle.floyd_goal_truth.proofs.Uses.{all_true}
 use Rattle.floyd_pure_formulas.specs.Holds.{Specs}
-use Rattle.floyd_pure_formulas.specs.Keeps.{AreTrueFrom, GoesOn, IsTrueFrom, KeepsTruth}
+use Rattle.floyd_pure_formulas.specs.Keeps.{AreTrueFrom, IsTrueFrom, KeepsTruth}
 use Rattle.floyd_pure_formulas.proofs.Going.{itself}
 use Rattle.floyd_pure_formulas.proofs.Rowing.{goals_are, no_goals}
 use Rattle.floyd_pure_formulas.specs.Instances.{goal_by, instance_at}
 use Rattle.floyd_pure_formulas.specs.Naming.{taken, variable}
 use Rattle.floyd_pure_quantifiers.specs.Intro.{IntroRow, introduced, named, supposing, with_variable}
 use Rattle.floyd_pure_quantifiers.proofs.Instancing.{goal_made}
-use Rattle.floyd_pure_formulas.proofs.NewVariables.{all_like, like_new, means_new, suits_new}
+use Rattle.floyd_pure_formulas.proofs.NewVariables.{all_like, goes_on, like_new, means_new, suits_new}
 use Rattle.floyd_pure_formulas.proofs.Likes.{like_back, like_below, truth_like}
 use Rattle.floyd_pure_formulas.proofs.Shapes.{for_all, for_all_fits}
 use Rattle.floyd_pure_formulas.proofs.Substituting.{Instantiated, instance_true, instantiated}
-
--- with a datum for a name that is not taken an environment goes on
-goes_on : (context : Context) (env : Env) (x : List ℕ) (s : Sort) (d : Datum) → has_name x context.variables ≡ false → GoesOn context (unmarked context.mark) env (with_datum env x d)
-goes_on context env x s d free = record {
-  global = refl;
-  local = refl;
-  variables = λ v r e. sym (like_new context env x s d free v r e);
-  promise = (itself context env).promise;
-}
 
 module _ (defs : Defs) (specs : Specs) where
   -- where the goal with x is true from here, the body is true of each datum

@@ -1,5 +1,5 @@
 -- A goal holds where it does with hypotheses more.
-use Rattle.std.proofs.Common.{◌≡◌, ℕ, List, [], ◌∷◌, ◌++◌, map, Ok, subst}
+use Rattle.std.proofs.Common.{ℕ, List, [], ◌∷◌, ◌++◌, map, subst}
 use Rattle.std.specs.List.{AllByRecursion}
 use Rattle.floyd_tree.specs.Formulas.{PlainFormula}
 use Rattle.floyd_tree_values.specs.BuiltIns.{Env}

@@ -1,5 +1,5 @@
 -- What a command is given stays well formed in the program.
-use Rattle.std.proofs.Common.{List, Option, Some, None}
+use Rattle.std.proofs.Common.{Option, Some, None}
 use Rattle.std.proofs.lemmas.List.Elements.{All-weaker}
 use Rattle.floyd_tree.specs.Formulas.{PlainFormula}
 use Rattle.floyd_assert_trees.specs.declared.items.Defs.{Defs}

@@ -1,5 +1,5 @@
 -- A Pure goal holds where the goals of a row do that keeps truth under each environment.
-use Rattle.std.proofs.Common.{◌≡◌, ◌⊎◌, inl, inr, ℕ, List, [], ◌∷◌, Some, Ok, refl, sym, ap, subst, ◌∙◌}
+use Rattle.std.proofs.Common.{◌≡◌, inl, inr, ℕ, List, [], ◌∷◌, Some, refl, sym, ap, subst, ◌∙◌}
 use Rattle.std.specs.Prelude.{bytes_eq}
 use Rattle.std.specs.List.{AllByRecursion}
 use Rattle.std.specs.Map.{lookup}
@@ -21,7 +21,7 @@ use Rattle.floyd_goal_meaning.specs.GoalHolds.{Given, HoldsFor, LemmaHoldsAt, Le
 use Rattle.floyd_goal_meaning.specs.Links.{Has, AreApart}
 use Rattle.floyd_goal_meaning.specs.Programs.{Further, Places, setting}
 use Rattle.floyd_goal_laws.proofs.Growing.{fits_program}
-use Rattle.floyd_pure_formulas.specs.Keeps.{AreTrueFrom, GoesOn, IsTrueFrom, KeepsTruth, MarkStays}
+use Rattle.floyd_pure_formulas.specs.Keeps.{AreTrueFrom, IsTrueFrom, KeepsTruth, MarkStays}
 use Rattle.floyd_pure_formulas.specs.Rows.{Row}
 use Rattle.floyd_pure_soundness.specs.Rows.{IsSoundOnPure, IsVariableOf, MarkFits}
 use Rattle.floyd_pure_soundness.proofs.Arguments.{args_stay, hypotheses_stay}
