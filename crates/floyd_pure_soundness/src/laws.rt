@@ -1,4 +1,5 @@
 ghost use Rattle.floyd_pure_formulas.specs.Cut.{CutRow};
+ghost use Rattle.floyd_pure_formulas.specs.Destruct.{DestructRow};
 ghost use Rattle.floyd_pure_formulas.specs.Discriminate.{DiscriminateRow};
 ghost use Rattle.floyd_pure_formulas.specs.LeftRight.{LeftRow, RightRow};
 ghost use Rattle.floyd_pure_formulas.specs.Mp.{MpRow};
@@ -11,6 +12,7 @@ ghost use Rattle.floyd_pure_quantifiers.specs.Specialize.{SpecializeRow};
 ghost use Rattle.floyd_pure_quantifiers.specs.Split.{SplitRow};
 ghost use Rattle.floyd_pure_soundness.specs.Adding as adding;
 ghost use Rattle.floyd_pure_laws.specs.ByLaw.{LawRow};
+ghost use Rattle.floyd_pure_laws.specs.Lia.{LiaRow};
 ghost use Rattle.floyd_pure_soundness.specs.Rows.{HypothesisCasesRow, IsSound, IsSoundOnPure, IsSoundOnWellFormed};
 
 /// A goal holds where it does with hypotheses more, and with what they follow from.
@@ -92,4 +94,14 @@ pub fn intro_is_sound()
 /// A Pure goal holds where those of both formulas do.
 pub fn split_is_sound()
     ensures { IsSoundOnPure SplitRow }
+{}
+
+/// A Pure goal holds where it does in each case of a hypothesis, or of a variable that is a list or a tree.
+pub fn destruct_is_sound()
+    ensures { IsSoundOnPure DestructRow }
+{}
+
+/// A Pure goal that a certificate closes holds.
+pub fn lia_is_sound()
+    ensures { IsSoundOnPure LiaRow }
 {}
