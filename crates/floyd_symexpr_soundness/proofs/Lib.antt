@@ -1,0 +1,4 @@
+pub mod Evaluations
+pub mod Growing
+pub mod Leaves
+pub mod RowValues
