@@ -1,2 +1,3 @@
+mod InsideLists
 mod Marks
 mod SameParts

@@ -17,8 +17,9 @@ pub fn equal_formula(a: &Formula, b: &Formula) -> bool
     same_under(a, b, &Around::Nothing)
 }
 
+/// Whether two formulas are equal up to bound names, with these binders around them.
 #[cycle(formulas)]
-fn same_under(a: &Formula, b: &Formula, around: &Around) -> bool
+pub fn same_under(a: &Formula, b: &Formula, around: &Around) -> bool
     ensures { IsTrue result ↔ SameUnder (binders around.now) a.now b.now }
 {
     let left = formula_head(&*a);
@@ -85,16 +86,18 @@ fn same_head(a: &Head, b: &Head, around: &Around) -> bool
     }
 }
 
+/// Whether two terms are equal up to the names of the binders around them.
 #[cycle(terms)]
-fn same_term(a: &Term, b: &Term, around: &Around) -> bool
+pub fn same_term(a: &Term, b: &Term, around: &Around) -> bool
     ensures { IsTrue result ↔ SameTerm (binders around.now) a.now b.now }
 {
     same_head(head(a), head(b), around)
         && same_terms(kids(a).as_slice(), kids(b).as_slice(), around)
 }
 
+/// Whether two lists of terms are so, each with each.
 #[cycle(terms)]
-fn same_terms(a: &[Term], b: &[Term], around: &Around) -> bool
+pub fn same_terms(a: &[Term], b: &[Term], around: &Around) -> bool
     ensures { IsTrue result ↔ SameTerms (binders around.now) (plains a.now) (plains b.now) }
 {
     if a.len() != b.len() {

@@ -6,7 +6,8 @@ mod equality;
 mod parts;
 mod removal;
 
-pub use equality::equal_formula;
+pub use around::{Around, same_variable};
+pub use equality::{equal_formula, same_term, same_terms, same_under};
 pub use floyd_assert_trees::{
     Assertion, AssertionList, Binder, BinderList, Defs, Fun, FunBody, FunCase, FunCaseList,
     Funspec, Lemma, Local, LocalList, NameList, Names, Pattern, PlaceList, Postcondition,
@@ -14,5 +15,5 @@ pub use floyd_assert_trees::{
     TypeList, assertion_size, part_size, props_size, share_binders, share_formulas, share_locals,
     share_parts, share_terms, terms_size,
 };
-pub use parts::equal_part;
+pub use parts::{equal_part, equal_region};
 pub use removal::remove_parts;

@@ -19,7 +19,8 @@ pub fn equal_part(a: &Sep, b: &Sep) -> bool
     }
 }
 
-fn equal_region(a: &Region, b: &Region) -> bool
+/// Whether two regions are equal, with their shares.
+pub fn equal_region(a: &Region, b: &Region) -> bool
     ensures { IsTrue result ↔ (a.now ≡ b.now) }
 {
     equal(&a.share, &b.share)

@@ -26,7 +26,7 @@ pub paths : Paths
 paths = record { second = refl; third = refl; before = refl; legal = refl; beyond = refl }
 
 pub fitting : Fitting
-fitting = record { fits = refl; odd = refl; high = refl; below = refl; negative = refl; size = refl }
+fitting = record { fits = refl; odd = refl; high = refl; below = refl; negative = refl; behind = refl; size = refl }
 
 pub stores : Stores
 unfolding decoding encoding k.repr_of k.value_of

@@ -8,7 +8,7 @@ use Rattle.floyd_ctypes.specs.declared.layout.Layout.{Layout}
 use Rattle.floyd_ctypes.specs.Layout.{layout, layout_by, struct_layout, fields_layout, laid_after, repeated, nothing_laid, offset_after, after, padded}
 use Rattle.floyd_ctypes.specs.Structs.{Structs, fields_of, completes}
 use Rattle.floyd_tree_sorts.specs.declared.shape.Shape.{Shape, Void, Int, Pointer', Array', Struct as StructShape, Function', more_of-Shape, end_of-Shape}
-use Rattle.floyd_assert_cells.specs.Types.{shape_of, sizes_of, size_by, size, align_by, are_sizes}
+use Rattle.floyd_assert_cells.specs.Types.{shape_of, sizes_of, size_by, size, align_by, none_negative}
 use Rattle.floyd_assert_cells.specs.Forms.{Form, Array, Struct, Fields, EndAt, FieldAt, end_of, form_layout, align_of, form_size, type_form, fields_form, shape_form, struct_form}
 
 -- ---- options
@@ -129,7 +129,7 @@ some_layout None n e = cc
 some_layout (Some f) n e = (f, refl)
 
 -- a type that has a size, with array sizes that are not negative, has a form
-pub has_form : (structs : Structs) (t : Shape) (sizes : List ℤ) (n : ℤ) → size_by structs t sizes ≡ Some n → are_sizes t sizes ≡ true → (f : Form) × (shape_form (struct_form (completes structs) structs) t sizes ≡ Some f)
+pub has_form : (structs : Structs) (t : Shape) (sizes : List ℤ) (n : ℤ) → size_by structs t sizes ≡ Some n → none_negative sizes ≡ true → (f : Form) × (shape_form (struct_form (completes structs) structs) t sizes ≡ Some f)
 has_form structs Void sizes n e s = cc
 has_form structs (Int k) sizes n e s = (_, refl)
 has_form structs (Pointer' p to) sizes n e s = (_, refl)

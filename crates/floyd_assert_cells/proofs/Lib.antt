@@ -7,6 +7,7 @@ pub mod FieldParts
 pub mod Focuses
 pub mod FormLaws
 pub mod FormOrders
+pub mod NoNegatives
 pub mod ObjectLaws
 pub mod PathForms
 pub mod ScalarLaws

@@ -20,7 +20,7 @@ use Rattle.floyd_clight_memory.specs.Loads.{load_by}
 use Rattle.floyd_tree_values.specs.Data.{Data, Datum, Empty, Item, Number, Val, Seq, Tree, Pair, data_of, items_in, listed, seq}
 use Rattle.floyd_tree_values.specs.Defaults.{default_value}
 use Rattle.floyd_assert_cells.specs.Scalars.{Scalar, chunk, holds, shape_scalar}
-use Rattle.floyd_assert_cells.specs.Types.{Sized, Step, align, align_by, are_sizes, compatible, has_room, is_aligned_for, is_legal, offset_at, shape_of, size, size_by, sized, sizes_of, type_at}
+use Rattle.floyd_assert_cells.specs.Types.{Sized, Step, align, align_by, none_negative, compatible, has_room, is_aligned_for, is_legal, offset_at, shape_of, size, size_by, sized, sizes_of, type_at}
 use Rattle.floyd_assert_cells.specs.Forms.{Form, Single, Array, Struct, Fields, FieldAt, form_layout, form_of, form_size, fields_form, shape_form, struct_form, type_form}
 use Rattle.floyd_assert_cells.specs.Cells.{Cells, FieldCells, FormCells, FormPadding, Padding, WithShare, is_padding, parted}
 use Rattle.floyd_assert_cells.specs.Items.{item_at, with_at}
@@ -435,11 +435,11 @@ paths_focused structs share t path f v b o h e l c =
     }
 
 -- what a test gives, where there is something to test
-tested : {A : Type 0} (o : Option A) (F : A → Bool) → option_map_or F o false ≡ true → (x : A) × (o ≡ Some x) × (F x ≡ true)
+pub tested : {A : Type 0} (o : Option A) (F : A → Bool) → option_map_or F o false ≡ true → (x : A) × (o ≡ Some x) × (F x ≡ true)
 tested None F e = cc
 tested (Some x) F e = (x, refl, e)
 
-four_parts : (p q r s : Bool) → (p && q && r && s) ≡ true → (p ≡ true) × (q ≡ true) × (r ≡ true) × (s ≡ true)
+pub four_parts : (p q r s : Bool) → (p && q && r && s) ≡ true → (p ≡ true) × (q ≡ true) × (r ≡ true) × (s ≡ true)
 four_parts true true true true e = (refl, refl, refl, refl)
 four_parts true true true false e = cc
 four_parts true true false s e = cc
@@ -449,7 +449,7 @@ four_parts false q r s e = cc
 pub paths_aligned : (structs : Structs) (t u : Sized) (path : List Step) (b o d : ℕ) (r : Scalar) → compatible structs t path (Vptr b o) ≡ true → type_at structs t path ≡ Some u → offset_at structs t path ≡ Some (pos d) → shape_scalar u.shape ≡ Some r →
     is_aligned (chunk r) (o + d) ≡ true
 paths_aligned structs t u path b o d r ok nested shifted is =
-    let parts = four_parts (is_aligned_for structs t o) (has_room structs t o) (are_sizes t.shape t.sizes) (is_legal structs t path) ok in
+    let parts = four_parts (is_aligned_for structs t o) (has_room structs t o) (none_negative t.sizes) (is_legal structs t path) ok in
     let room = tested (size structs t) (λ n. int_lt (pos o +ℤ n) (pos (2 ^ 64))) parts.1 in
     let f = has_form structs t.shape t.sizes room.0 room.1 parts.2 in
     let al = tested (align structs t) (λ a. o % a == 0) parts.0 in

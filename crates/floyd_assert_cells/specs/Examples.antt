@@ -10,7 +10,7 @@ use Rattle.floyd_memval.specs.declared.bytes.MemByte.TheVariants.{Undef, Byte}
 use Rattle.floyd_clight_memory.specs.Memory.{Global, Mem, Perm, Readable, Writable, store}
 use Rattle.floyd_clight_memory.specs.Loads.{in_memory, load_by}
 use Rattle.floyd_clight_heap.specs.Heaplet.{Fits, Heaplet}
-use Rattle.floyd_tree_sorts.specs.declared.shape.Shape.{Int as IntShape}
+use Rattle.floyd_tree_sorts.specs.declared.shape.Shape.{Int as IntShape, Pointer', more_of-Shape, end_of-Shape}
 use Rattle.floyd_tree_values.specs.Data.{Pair, Val}
 use Rattle.floyd_assert_cells.specs.Scalars.{Integer}
 use Rattle.floyd_assert_cells.specs.Types.{At, Dot, Sized, align, compatible, is_legal, offset_at, size, type_at}
@@ -37,6 +37,9 @@ pair = struct_of tag
 abbrev pub int : Sized
 int = record { shape = IntShape KindI32; sizes = [] }
 
+abbrev pub pointer_to : Sized → Sized
+pointer_to t = record { shape = Pointer' tt (more_of-Shape t.shape end_of-Shape); sizes = t.sizes }
+
 -- The struct has 8 bytes, of which three between its fields are padding.
 pub record Layouts : Type 0 where
   pub form : form_of structs pair ≡ Some (StructForm (FieldAt c 0 (Single (Integer KindI8)) (FieldAt n 4 (Single (Integer KindI32)) (EndAt 8))))
@@ -55,13 +58,14 @@ pub record Paths : Type 0 where
   pub legal : is_legal structs (array_of (pos 2) pair) (At (pos 1) ∷ Dot n ∷ []) ≡ true
   pub beyond : is_legal structs (array_of (pos 2) pair) (At (pos 2) ∷ Dot n ∷ []) ≡ false
 
--- An object stands at a multiple of its alignment, below 2 ^ 64, and its arrays have no negative size.
+-- An object stands at a multiple of its alignment, below 2 ^ 64, and no array has a negative size, also behind a pointer.
 pub record Fitting : Type 0 where
   pub fits : compatible structs pair [] (Vptr 0 8) ≡ true
   pub odd : compatible structs pair [] (Vptr 0 6) ≡ false
   pub high : compatible structs pair [] (Vptr 0 18446744073709551608) ≡ false
   pub below : compatible structs pair [] (Vptr 0 18446744073709551600) ≡ true
   pub negative : compatible structs (array_of (negsuc 0) int) [] (Vptr 0 8) ≡ false
+  pub behind : compatible structs (pointer_to (array_of (negsuc 0) int)) [] (Vptr 0 8) ≡ false
   pub size : size structs (array_of (negsuc 0) int) ≡ Some (negsuc 3)
 
 -- a memory with the bytes of the struct in one block, each with that permission

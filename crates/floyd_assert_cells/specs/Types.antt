@@ -7,6 +7,7 @@ use Rattle.floyd_int.specs.declared.kinds.Value.TheVariants.{Vptr}
 use Rattle.floyd_ctypes.specs.declared.ctype.CType.{CType, Row_of-CType, more_of-CType, end_of-CType}
 use Rattle.floyd_ctypes.specs.declared.ctype.CType as c
 use Rattle.floyd_ctypes.specs.Layout.{layout, kind_size, offset}
+pub use Rattle.floyd_ctypes.specs.Path.{Step, Dot, At}
 use Rattle.floyd_ctypes.specs.Structs.{Structs, field_of}
 use Rattle.floyd_tree_sorts.specs.declared.shape.Shape.{Shape, Void, Int, Pointer', Array', Struct, Function', Row_of-Shape, more_of-Shape, end_of-Shape}
 
@@ -70,17 +71,11 @@ module _ (structs : Structs) where
   abbrev pub align : Sized → Option ℕ
   align t = align_by t.shape
 
--- the arrays that an object of the type is made of have no negative size
-abbrev pub are_sizes : Shape → List ℤ → Bool
-are_sizes (Array' p (more_of-Shape t end_of-Shape)) [] = false
-are_sizes (Array' p (more_of-Shape t end_of-Shape)) (pos n ∷ sizes) = are_sizes t sizes
-are_sizes (Array' p (more_of-Shape t end_of-Shape)) (negsuc n ∷ sizes) = false
-are_sizes t sizes = true
-
--- a step from a struct to its field of that name, or from an array to its element at that place
-pub data Step : Type 0 where
-  Dot : (name : List ℕ) → Step
-  At : (place : ℤ) → Step
+-- no array has a negative size, also behind a pointer
+abbrev pub none_negative : List ℤ → Bool
+none_negative [] = true
+none_negative (pos n ∷ sizes) = none_negative sizes
+none_negative (negsuc n ∷ sizes) = false
 
 -- the type of an array's elements
 abbrev pub item_type : Shape → List ℤ → Option Sized
@@ -142,5 +137,5 @@ module _ (structs : Structs) where
   -- a pointer, aligned for the type, with offset plus size below 2 ^ 64, array sizes that are not negative, and a path
   -- that is legal
   abbrev pub compatible : Sized → List Step → Value → Bool
-  compatible t path (Vptr block offset) = is_aligned_for t offset && has_room t offset && are_sizes t.shape t.sizes && is_legal t path
+  compatible t path (Vptr block offset) = is_aligned_for t offset && has_room t offset && none_negative t.sizes && is_legal t path
   compatible t path v = false

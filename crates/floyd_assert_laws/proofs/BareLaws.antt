@@ -19,8 +19,7 @@ use Rattle.floyd_tree_values.specs.Data.{Datum, Number, Val}
 use Rattle.floyd_tree_values.specs.Means.{Defs, Means, AllMean, built_in, call, none, more}
 use Rattle.floyd_truth.specs.Truth.{SaysOf, Truth, FirstTrue, SecondTrue, AllTrue, with_datum}
 use Rattle.floyd_clight_heap.specs.Heaplet.{Heaplet}
-use Rattle.floyd_assert_cells.specs.Types.{Step, Dot}
-use Rattle.floyd_assert_cells.specs.Types as cells
+use Rattle.floyd_assert_cells.specs.Types.{Step, Dot, At as Subscripted}
 use Rattle.floyd_assert_trees.specs.declared.assertion.Assertion.{Assertion}
 use Rattle.floyd_assert_trees.specs.declared.assertion.Local.{Local}
 use Rattle.floyd_assert_trees.specs.declared.binder.Binder.{Binder}
@@ -124,10 +123,10 @@ module _ (S : Setting) (bare : IsBare S) where
   path_bare env local [] (s ∷ steps) h x = absurd x
   path_bare env local (Field n ∷ path) [] h x = absurd x
   path_bare env local (Field n ∷ path) (Dot y ∷ steps) h x = (x.0, path_bare env local path steps h x.1)
-  path_bare env local (Field n ∷ path) (cells.At i ∷ steps) h x = absurd x
+  path_bare env local (Field n ∷ path) (Subscripted i ∷ steps) h x = absurd x
   path_bare env local (Subscript t ∷ path) [] h x = absurd x
   path_bare env local (Subscript t ∷ path) (Dot y ∷ steps) h x = absurd x
-  path_bare env local (Subscript t ∷ path) (cells.At i ∷ steps) h x =
+  path_bare env local (Subscript t ∷ path) (Subscripted i ∷ steps) h x =
       let k = neither (has_local t) (have_local (plains (flat_map step_terms path))) h in
       (means_bare x.0 local k.0, path_bare env local path steps k.1 x.1)
 

@@ -20,7 +20,7 @@ use Rattle.floyd_tree_values.specs.Data.{Val}
 use Rattle.floyd_tree_values.specs.Means.{Defs, Means}
 use Rattle.floyd_assert_cells.specs.Cells.{Located}
 use Rattle.floyd_assert_cells.specs.Forms.{form_layout, form_size}
-use Rattle.floyd_assert_cells.specs.Types.{Sized, Step, align, are_sizes, compatible, has_room, is_aligned_for, is_legal, offset_at, size}
+use Rattle.floyd_assert_cells.specs.Types.{Sized, Step, align, compatible, has_room, is_aligned_for, is_legal, none_negative, offset_at, size}
 use Rattle.floyd_assert_cells.proofs.FormLaws.{align_is, has_form, size_is}
 use Rattle.floyd_assert_cells.proofs.FormOrders.{is_form}
 use Rattle.floyd_assert_cells.proofs.PathForms.{path_found, path_placed}
@@ -46,9 +46,9 @@ in_room : (offset size inner k shift : ℕ) → int_lt (pos offset +ℤ pos size
 in_room offset size inner k shift e h same = omega (arith, ints, e, h, same)
 
 -- the place at a legal path lies below 2 ^ 64
-place_below : (structs : Structs) (t : Sized) (path : List Step) (block offset shift : ℕ) → compatible structs t path (Vptr block offset) ≡ true → offset_at structs t path ≡ Some (pos shift) → offset + shift < 2 ^ 64
+pub place_below : (structs : Structs) (t : Sized) (path : List Step) (block offset shift : ℕ) → compatible structs t path (Vptr block offset) ≡ true → offset_at structs t path ≡ Some (pos shift) → offset + shift < 2 ^ 64
 place_below structs t path block offset shift ok shifted =
-    let parts = four_parts (is_aligned_for structs t offset) (has_room structs t offset) (are_sizes t.shape t.sizes) (is_legal structs t path) ok in
+    let parts = four_parts (is_aligned_for structs t offset) (has_room structs t offset) (none_negative t.sizes) (is_legal structs t path) ok in
     let room = passed (size structs t) (λ n. int_lt (pos offset +ℤ n) (pos (2 ^ 64))) parts.1 in
     let f = has_form structs t.shape t.sizes room.0 room.1 parts.2 in
     let al = passed (align structs t) (λ a. offset % a == 0) parts.0 in

@@ -29,7 +29,8 @@ use Rattle.floyd_tree_values.specs.Data.{Number, Val, number_in}
 use Rattle.floyd_tree_values.specs.Defaults.{default_value, value_sort}
 use Rattle.floyd_tree_values.specs.Means.{AllMean, Defs, Means, built_in, more, none}
 use Rattle.floyd_assert_cells.specs.Cells.{HasExactly, Located, within}
-use Rattle.floyd_assert_cells.specs.Types.{align, are_sizes, compatible, has_room, is_aligned_for, is_legal, shape_of, size, sized, sizes_of}
+use Rattle.floyd_assert_cells.proofs.NoNegatives.{c_sizes}
+use Rattle.floyd_assert_cells.specs.Types.{align, compatible, has_room, is_aligned_for, is_legal, none_negative, shape_of, size, sized, sizes_of}
 use Rattle.floyd_assert_cells.proofs.Exact.{spread_exact}
 use Rattle.floyd_assert_cells.proofs.FormLaws.{mapped}
 use Rattle.floyd_assert_cells.proofs.ObjectLaws.{layouts_agree}
@@ -99,14 +100,6 @@ module _ (defs : Defs) (env : Env) where
 
 -- ---- where it lies
 
-c_sizes : (t : CType) → are_sizes (shape_of t) (sizes_of t) ≡ true
-c_sizes c.Void = refl
-c_sizes (c.Int kind) = refl
-c_sizes (c.Pointer' p (more_of-CType t end_of-CType)) = refl
-c_sizes (c.Array' p (more_of-CType t end_of-CType) n) = c_sizes t
-c_sizes (c.Struct tag) = refl
-c_sizes (c.Function' shape ps p (more_of-CType r end_of-CType)) = refl
-
 nothing_left : (a : ℕ) → (0 % a == 0) ≡ true
 nothing_left a =
     let e = div-add-mod' 0 a in
@@ -142,7 +135,7 @@ placed structs t n e k =
     (sym (ap l.within_limit lay.1) ∙ (and_parts (l.arrays_fit structs t) (l.within_limit (l.layout structs t)) k.1).1) in
     record {
       size = is_size;
-      fits = λ block. four (is_aligned_for structs (sized t) 0) (has_room structs (sized t) 0) (are_sizes (shape_of t) (sizes_of t)) (is_legal structs (sized t) [])
+      fits = λ block. four (is_aligned_for structs (sized t) 0) (has_room structs (sized t) 0) (none_negative (sizes_of t)) (is_legal structs (sized t) [])
           (ap (λ o. option_map_or (λ a. 0 % a == 0) o false) is_align ∙ nothing_left lay.0.align)
           (ap (λ o. option_map_or (λ m. int_lt (pos 0 +ℤ m) (pos (2 ^ 64))) o false) is_size ∙ room n limit)
           (c_sizes t)

@@ -12,7 +12,7 @@ use Rattle.floyd_clight_heap.specs.Heaplet.{Cell, Heaplet, JoinsAt, Joins, empty
 use Rattle.floyd_clight_heap.proofs.Spreads.{SpreadAt, one_of, nothing, spread_at}
 use Rattle.floyd_tree_values.specs.Data.{Datum}
 use Rattle.floyd_tree_values.specs.Defaults.{default_value}
-use Rattle.floyd_assert_cells.specs.Types.{Sized, are_sizes, size}
+use Rattle.floyd_assert_cells.specs.Types.{Sized, none_negative, size}
 use Rattle.floyd_assert_cells.specs.Forms.{Form, Single, Array, Struct, Fields, EndAt, FieldAt, end_of, form_of, form_size}
 use Rattle.floyd_assert_cells.specs.Scalars.{Scalar, scalar_size}
 use Rattle.floyd_assert_cells.specs.Cells.{Cells, FieldCells, FormCells, HasExactly, IsCell, ItemsAt, in_fields, is_padding, parted, within}
@@ -201,7 +201,7 @@ same_pos : (m n : ℕ) → ◌≡◌ {A = Option ℤ} (Some (pos m)) (Some (pos 
 same_pos m n e = cc
 
 -- bytes of the whole share, as many as the type has
-pub new_object : (structs : Structs) (t : Sized) (n b : ℕ) (h : Heaplet) → size structs t ≡ Some (pos n) → are_sizes t.shape t.sizes ≡ true → HasExactly 15 b (within 0 n) h → Cells structs (pos 16) t (default_value structs t.shape t.sizes) b 0 h
+pub new_object : (structs : Structs) (t : Sized) (n b : ℕ) (h : Heaplet) → size structs t ≡ Some (pos n) → none_negative t.sizes ≡ true → HasExactly 15 b (within 0 n) h → Cells structs (pos 16) t (default_value structs t.shape t.sizes) b 0 h
 new_object structs t n b h e s w =
     let f = has_form structs t.shape t.sizes (pos n) e s in
     let count : n ≡ form_size f.0 = same_pos n (form_size f.0) (sym e ∙ size_is structs t.shape t.sizes f.0 f.1) in (

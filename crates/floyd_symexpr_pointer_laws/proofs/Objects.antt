@@ -16,7 +16,7 @@ use Rattle.floyd_tree_values.specs.Data.{Number, Val}
 use Rattle.floyd_tree_values.specs.Means.{Defs, Means, AllMean, more}
 use Rattle.floyd_assert_cells.specs.Cells.{Cells, IsCell, within}
 use Rattle.floyd_assert_cells.specs.Laws.{IsExact}
-use Rattle.floyd_assert_cells.specs.Types.{Sized, Step, are_sizes, compatible, has_room, is_aligned_for, is_legal, offset_at, size, type_at}
+use Rattle.floyd_assert_cells.specs.Types.{Sized, Step, compatible, has_room, is_aligned_for, is_legal, none_negative, offset_at, size, type_at}
 use Rattle.floyd_assert_cells.proofs.Exact.{within_from}
 use Rattle.floyd_assert_cells.proofs.ObjectLaws.{cells_are_exact}
 use Rattle.floyd_assert_trees.specs.declared.sep.Region.{Region}
@@ -94,8 +94,8 @@ module _ (S : Setting) (env : Env) (look : Look) where
       let here : l.offset + l.shift ≡ l.offset = no_shift l.offset l.shift o.1 in
       let x = cells_are_exact structs m.share whole v l.block l.offset h (subst (λ n. Cells structs m.share whole v l.block n h) here (subst (λ u. Cells structs m.share u v l.block (l.offset + l.shift) h) (sym t.1) cells)) in
       let fits : compatible structs whole [] (Vptr l.block l.offset) ≡ true = ap (λ p. compatible structs whole p (Vptr l.block l.offset)) (sym none_left) ∙ ap (compatible structs whole m.path) (sym l.points) ∙ l.fits in
-      let parts1 = both_true (is_aligned_for structs whole l.offset && has_room structs whole l.offset && are_sizes whole.shape whole.sizes) (is_legal structs whole []) fits in
-      let parts2 = both_true (is_aligned_for structs whole l.offset && has_room structs whole l.offset) (are_sizes whole.shape whole.sizes) parts1.0 in
+      let parts1 = both_true (is_aligned_for structs whole l.offset && has_room structs whole l.offset && none_negative whole.sizes) (is_legal structs whole []) fits in
+      let parts2 = both_true (is_aligned_for structs whole l.offset && has_room structs whole l.offset) (none_negative whole.sizes) parts1.0 in
       let parts3 = both_true (is_aligned_for structs whole l.offset) (has_room structs whole l.offset) parts2.0 in
       record {
         block = l.block;

@@ -1,0 +1,3 @@
+-- Lemmas on parts of memory.
+pub mod Along
+pub mod Regions
