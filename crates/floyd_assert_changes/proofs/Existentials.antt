@@ -32,7 +32,7 @@ or_false : (b : Bool) → b ≡ (b || false)
 or_false true = refl
 or_false false = refl
 
-has_binders : (y : List ℕ) (bs : List Binder) (names : Names) → has (binders_names bs names) y ≡ (has names y || has_name y bs)
+pub has_binders : (y : List ℕ) (bs : List Binder) (names : Names) → has (binders_names bs names) y ≡ (has names y || has_name y bs)
 has_binders y [] names = or_false (has names y)
 has_binders y (b ∷ bs) names =
     has_binders y bs (with_name b.name names)

@@ -1,5 +1,6 @@
 -- Lemmas on terms in place of variables.
 pub mod Answering
+pub mod SetApart
 pub mod Existentials
 pub mod Heights
 pub mod Marking

@@ -1,4 +1,6 @@
 -- Definitions that contracts cite.
+pub mod Apart
+pub mod ApartClauses
 pub mod BodyClauses
 pub mod Changed
 pub mod ChangesClauses

@@ -74,7 +74,7 @@ fn renamed_binder(
 }
 
 /// The assertion with these existentials, and with the changes in what stands below them.
-fn body_after<L: Ledger>(
+pub fn body_after<L: Ledger>(
     alloc: Global,
     a: &Assertion,
     existentials: BinderList,

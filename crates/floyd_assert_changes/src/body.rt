@@ -95,7 +95,8 @@ fn has_name(binders: &[Binder], x: &Name) -> bool
     false
 }
 
-fn add_binders(names: &mut Names, binders: &[Binder]) -> Result<(), AllocError>
+/// Adds the names of the binders.
+pub fn add_binders(names: &mut Names, binders: &[Binder]) -> Result<(), AllocError>
     ensures { OnOk result (names.new ≡ binders_names binders.now names.old) }
 {
     'binders: for binder in binders {
@@ -105,7 +106,7 @@ fn add_binders(names: &mut Names, binders: &[Binder]) -> Result<(), AllocError>
 }
 
 /// The terms of LOCAL and SEP.
-fn terms_in(alloc: Global, a: &Assertion) -> Result<Vec<Term>, AllocError>
+pub fn terms_in(alloc: Global, a: &Assertion) -> Result<Vec<Term>, AllocError>
     ensures { IfOk result (λ all. all.items ≡ terms_in a.now) }
 {
     let mut all = Vec::new(alloc);

@@ -2,6 +2,7 @@
 //! where they would capture.
 #![tactic(auto)]
 
+mod apart;
 mod assertions;
 mod body;
 mod changing;
@@ -13,6 +14,7 @@ mod replace;
 mod replace_formula;
 mod substitution;
 
+pub use apart::{rename_apart, rename_apart_from};
 pub use substitution::{
     change_assertion, subst_assertion, subst_formula, subst_formulas, subst_parts, subst_terms,
 };

@@ -1,11 +1,10 @@
 -- The two goals with which the proof of an import with a specification of its own starts.
-use Rattle.std.specs.Prelude.{ℕ, Bool, ◌&&◌, ◌||◌, if◌then◌else◌, List, [], ◌∷◌, ◌++◌, map, Option, Some, None, bytes_eq}
+use Rattle.std.specs.Prelude.{ℕ, Bool, ◌&&◌, List, [], ◌∷◌, ◌++◌, map, Option, Some, None, bytes_eq}
 use Rattle.std.specs.List.{list_all, list_any}
 use Rattle.floyd_tree_sorts.specs.declared.connectives.FormulaHead.TheVariants.{Equal}
 use Rattle.floyd_tree.specs.Formulas.{PlainFormula, Says, NoFormula}
 use Rattle.floyd_tree.specs.MadeFormulas.{formula_fits}
 use Rattle.floyd_tree.specs.Plain.{Plain, Done, More}
-use Rattle.floyd_truth.specs.Capture.{most_marks, unmarked_from}
 use Rattle.floyd_truth.specs.Replace.{puts, replaced, replaced_formula}
 use Rattle.floyd_assert_trees.specs.declared.assertion.Assertion.{Assertion}
 use Rattle.floyd_assert_trees.specs.declared.assertion.Local.{Local}
@@ -13,7 +12,8 @@ use Rattle.floyd_assert_trees.specs.declared.binder.Binder.{Binder}
 use Rattle.floyd_assert_trees.specs.declared.sep.Sep.{Sep}
 use Rattle.floyd_assert_trees.specs.declared.spec.Funspec.{Funspec}
 use Rattle.floyd_assert_trees.specs.declared.spec.Postcondition.{Postcondition}
-use Rattle.floyd_assert_changes.specs.Changed.{assertion_after, assertion_fits, below_existentials, body_after, body_binds, body_mentions, has_name, part_after}
+pub use Rattle.floyd_assert_changes.specs.Apart.{apart as freed, apart_from as fresh_from, apart_name as fresh_name}
+use Rattle.floyd_assert_changes.specs.Changed.{assertion_after, assertion_fits, part_after}
 use Rattle.floyd_assert_laws.specs.Free.{option_mentions}
 use Rattle.floyd_goal_trees.specs.declared.context.Mark.TheVariants as m
 use Rattle.floyd_goal_trees.specs.declared.goal.Entail.{Entail}
@@ -60,20 +60,6 @@ with_value post = record { existentials = post.existentials; props = post.props;
 
 abbrev pub is_among : List (List ℕ) → List ℕ → Bool
 is_among names x = list_any (bytes_eq x) names
-
--- x, or x'k where x is to be avoided: with the least k from 1 that is not to be avoided, is neither free nor bound in what
--- the binder covers, and is no other of its list
-abbrev pub fresh_name : (List ℕ → Bool) → Assertion → List Binder → List ℕ → List ℕ
-fresh_name avoided a others x =
-    if avoided x then unmarked_from (λ name. avoided name || (body_mentions a name || (body_binds a name || has_name name others))) x most_marks 1 else x
-
-abbrev pub fresh_from : (List ℕ → Bool) → Assertion → List Binder → List Binder → List Binder
-fresh_from avoided a done [] = done
-fresh_from avoided a done (b ∷ more) = fresh_from avoided a (done ++ record { name = fresh_name avoided a (done ++ more) b.name; sort = b.sort } ∷ []) more
-
--- with existentials that are not to be avoided
-abbrev pub freed : (List ℕ → Bool) → Assertion → Assertion
-freed avoided a = let new = fresh_from avoided a [] a.existentials in body_after (below_existentials [] a.existentials new) a new
 
 -- The function's own postcondition, at these terms: its existentials are no names of the import.
 abbrev pub own_post : Funspec → Funspec → List Plain → Assertion
