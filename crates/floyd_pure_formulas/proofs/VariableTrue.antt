@@ -41,11 +41,11 @@ use Rattle.floyd_pure_formulas.proofs.Exchanged.{case_true, pair}
 use Rattle.floyd_pure_formulas.proofs.NewVariables.{found_by}
 use Rattle.floyd_pure_formulas.proofs.Rowing.{goals_are, no_goals}
 
-nat_eq_is : (m n : ℕ) → nat_eq m n ≡ true → m ≡ n
+pub nat_eq_is : (m n : ℕ) → nat_eq m n ≡ true → m ≡ n
 nat_eq_is m n e = (Decides-eqb m n).0 e
 
 -- what is found in a list with others behind it
-found_in : (xs bs : List Binder) (v : List ℕ) (r : Sort) → lookup (bytes_eq v) (map pair (xs ++ bs)) ≡ Some r → (lookup (bytes_eq v) (map pair xs) ≡ Some r) ⊎ (lookup (bytes_eq v) (map pair bs) ≡ Some r)
+pub found_in : (xs bs : List Binder) (v : List ℕ) (r : Sort) → lookup (bytes_eq v) (map pair (xs ++ bs)) ≡ Some r → (lookup (bytes_eq v) (map pair xs) ≡ Some r) ⊎ (lookup (bytes_eq v) (map pair bs) ≡ Some r)
 found_in [] bs v r e = inr e
 found_in (a ∷ xs) bs v r e =
     found_by (bytes_eq v a.name) a.sort (lookup (bytes_eq v) (map pair (xs ++ bs))) (lookup (bytes_eq v) (map pair xs)) (lookup (bytes_eq v) (map pair bs) ≡ Some r) r (λ i. found_in xs bs v r i) e
@@ -61,7 +61,7 @@ differs v x a i k = by (bytes_eq v x) refl
         absurd (true≢false (sym (subst (λ n. bytes_eq n a ≡ true) same i) ∙ k))
 
 -- what is found without x is found with it, and is not x
-abbrev FoundToo : List ℕ → List Binder → List ℕ → Sort → Type 0
+abbrev pub FoundToo : List ℕ → List Binder → List ℕ → Sort → Type 0
 FoundToo x xs v r = (lookup (bytes_eq v) (map pair xs) ≡ Some r) × (bytes_eq v x ≡ false)
 
 here_too : (x : List ℕ) (a : Binder) (xs : List Binder) (v : List ℕ) (r : Sort) → (lookup (bytes_eq v) (map pair (without x xs)) ≡ Some r → FoundToo x xs v r) → (c : Bool) → bytes_eq v a.name ≡ c → bytes_eq x a.name ≡ false → cond c (Some a.sort) (lookup (bytes_eq v) (map pair (without x xs))) ≡ Some r → (cond c (Some a.sort) (lookup (bytes_eq v) (map pair xs)) ≡ Some r) × (bytes_eq v x ≡ false)
@@ -78,7 +78,7 @@ either_too : (x : List ℕ) (a : Binder) (xs : List Binder) (v : List ℕ) (r : 
 either_too x a xs v r again true k e = skipped_too x a xs v r (bytes_eq v a.name) refl k (again e)
 either_too x a xs v r again false k e = here_too x a xs v r again (bytes_eq v a.name) refl k e
 
-found_without : (x : List ℕ) (xs : List Binder) (v : List ℕ) (r : Sort) → lookup (bytes_eq v) (map pair (without x xs)) ≡ Some r → FoundToo x xs v r
+pub found_without : (x : List ℕ) (xs : List Binder) (v : List ℕ) (r : Sort) → lookup (bytes_eq v) (map pair (without x xs)) ≡ Some r → FoundToo x xs v r
 found_without x [] v r e = absurd cc
 found_without x (a ∷ xs) v r e = either_too x a xs v r (λ i. found_without x xs v r i) (bytes_eq x a.name) refl e
 
@@ -86,7 +86,7 @@ sort_by : (c : Bool) (sort s : Sort) (o p : Option Sort) → (o ≡ Some s → p
 sort_by true sort s o p k e = e
 sort_by false sort s o p k e = k e
 
-sort_found : (x : List ℕ) (xs : List Binder) (s : Sort) → sort_named x xs ≡ Some s → lookup (bytes_eq x) (map pair xs) ≡ Some s
+pub sort_found : (x : List ℕ) (xs : List Binder) (s : Sort) → sort_named x xs ≡ Some s → lookup (bytes_eq x) (map pair xs) ≡ Some s
 sort_found x [] s e = absurd cc
 sort_found x (a ∷ xs) s e = sort_by (bytes_eq x a.name) a.sort s (sort_named x xs) (lookup (bytes_eq x) (map pair xs)) (λ i. sort_found x xs s i) e
 
@@ -113,7 +113,7 @@ put_other f x v d e = ap (λ c. cond c d (f v)) e
 means_variable : (defs : Defs) (env : Env) (f : List ℕ → Datum) (x : List ℕ) (s : Sort) (d : Datum) → f x ≡ d → Means defs (giving env f) (variable x s) d
 means_variable defs env f x s d e = subst (Means defs (giving env f) (variable x s)) e (built_in {head = h.Variable x s} {s = s} refl refl none)
 
-data_listed : (items : Data) → data_of (listed items) ≡ items
+pub data_listed : (items : Data) → data_of (listed items) ≡ items
 data_listed Empty = refl
 data_listed (Item d items) = ap (λ x. Item d x) (data_listed items)
 
@@ -126,11 +126,11 @@ not_taken : (p : Bool) (x : List ℕ) (rest : Option (List ℕ)) → cond p (Som
 not_taken true x rest e = absurd cc
 not_taken false x rest e = (refl, e)
 
-record Fresh (variables earlier : List Binder) (x : List ℕ) : Type 0 where
+pub record Fresh (variables earlier : List Binder) (x : List ℕ) : Type 0 where
   pub free : has_name x variables ≡ false
   pub apart : has_name x earlier ≡ false
 
-fresh : (variables earlier : List Binder) (b : Binder) (new : List Binder) → first_taken variables earlier (b ∷ new) ≡ None → Fresh variables earlier b.name × (first_taken variables (earlier ++ b ∷ []) new ≡ None)
+pub fresh : (variables earlier : List Binder) (b : Binder) (new : List Binder) → first_taken variables earlier (b ∷ new) ≡ None → Fresh variables earlier b.name × (first_taken variables (earlier ++ b ∷ []) new ≡ None)
 fresh variables earlier b new e =
     let p = not_taken (has_name b.name variables || has_name b.name earlier) b.name (first_taken variables (earlier ++ b ∷ []) new) e in
     let q = left_false (has_name b.name variables) (has_name b.name earlier) p.0 in
@@ -333,7 +333,7 @@ module _ (defs : Defs) (specs : Specs) (pure : Pure) (x : List ℕ) (env : Env) 
   tree_true s names a b count new here e k p q (Pair l r) is has = absurd has
 
 -- what a row that gives goals has gone through
-record Gone (goal : Goal) (x : List ℕ) (names : List (List ℕ)) (c : Constructors) (goals : List Goal) : Type 0 where
+pub record Gone (goal : Goal) (x : List ℕ) (names : List (List ℕ)) (c : Constructors) (goals : List Goal) : Type 0 where
   pub count : length names ≡ length c.sorts
   pub new : first_taken (context_of goal).variables [] (zipped names c.sorts) ≡ None
   pub empty : Goal
@@ -342,7 +342,7 @@ record Gone (goal : Goal) (x : List ℕ) (names : List (List ℕ)) (c : Construc
   pub full_is : case_with goal x (built c (zipped names c.sorts)) (zipped names c.sorts) ≡ Ok full
   pub goals' : goals ≡ empty ∷ full ∷ []
 
-gone : (goal : Goal) (x : List ℕ) (names : List (List ℕ)) (c : Constructors) (goals : List Goal) → Ok goals ≡ of_binders goal x c (binders names c.sorts) → Gone goal x names c goals
+pub gone : (goal : Goal) (x : List ℕ) (names : List (List ℕ)) (c : Constructors) (goals : List Goal) → Ok goals ≡ of_binders goal x c (binders names c.sorts) → Gone goal x names c goals
 gone goal x names c goals row = counted (nat_eq (length names) (length c.sorts)) refl row
   where
     both : length names ≡ length c.sorts → first_taken (context_of goal).variables [] (zipped names c.sorts) ≡ None → (p q : Result Goal No) → case_with goal x c.empty [] ≡ p → case_with goal x (built c (zipped names c.sorts)) (zipped names c.sorts) ≡ q → Ok goals ≡ of_two (λ a b. a ∷ b ∷ []) p q → Gone goal x names c goals
@@ -358,14 +358,14 @@ gone goal x names c goals row = counted (nat_eq (length names) (length c.sorts))
     counted true e row = named (nat_eq_is (length names) (length c.sorts) e) (first_taken (context_of goal).variables [] (zipped names c.sorts)) refl row
     counted false e row = absurd (no_goals goals _ row)
 
-record Sorted (goal : Goal) (x : List ℕ) (names : List (List ℕ)) (goals : List Goal) : Type 0 where
+pub record Sorted (goal : Goal) (x : List ℕ) (names : List (List ℕ)) (goals : List Goal) : Type 0 where
   pub sort : Sort
   pub c : Constructors
   pub is : sort_named x (context_of goal).variables ≡ Some sort
   pub of' : constructors_of sort ≡ Some c
   pub went : Gone goal x names c goals
 
-sorted_by : (goal : Goal) (args : Args) (goals : List Goal) → Ok goals ≡ variable_cases goal args → Sorted goal args.name args.names goals
+pub sorted_by : (goal : Goal) (args : Args) (goals : List Goal) → Ok goals ≡ variable_cases goal args → Sorted goal args.name args.names goals
 sorted_by goal args goals row = by (sort_named args.name (context_of goal).variables) refl row
   where
     constructed : (sort : Sort) → sort_named args.name (context_of goal).variables ≡ Some sort → (o : Option Constructors) → constructors_of sort ≡ o → Ok goals ≡ of_constructors goal args.name args.names o → Sorted goal args.name args.names goals

@@ -1,0 +1,2 @@
+-- Lemmas on induction.
+pub mod MarkLemmas

@@ -1,0 +1,2 @@
+pub mod Simplifying
+pub mod Stopping

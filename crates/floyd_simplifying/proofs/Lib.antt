@@ -1,0 +1,15 @@
+pub mod Sorting
+pub mod Keeping
+pub mod NumbersKept
+pub mod ListsKept
+pub mod StepsKept
+pub mod TermsKept
+pub mod FormulasKept
+pub mod Keeps
+pub mod WrittenOut
+pub mod DefaultTerms
+pub mod ByKids
+pub mod Joining
+pub mod JoiningFormulas
+pub mod JoiningAssertions
+pub mod Summing
