@@ -1,0 +1,4 @@
+-- Lemmas on goals whose assertions are replaced.
+pub mod Formed
+pub mod Replaced
+pub mod Sound

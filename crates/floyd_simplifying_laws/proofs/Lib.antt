@@ -1,0 +1,3 @@
+pub mod AssertionsKept
+pub mod Formed
+pub mod Sound
