@@ -1,0 +1,3 @@
+pub mod ArrayLemmas
+pub mod JoinLemmas
+pub mod SplitLemmas
