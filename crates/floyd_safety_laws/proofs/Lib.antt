@@ -1,0 +1,1 @@
+-- No lemmas: the laws are instances of those of runs.
