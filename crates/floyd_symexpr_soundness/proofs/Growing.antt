@@ -1,16 +1,12 @@
 -- What an expression needs stands behind what was needed before.
 use Rattle.std.proofs.Common.{◌≡◌, Bool, true, false, List, [], ◌∷◌, ◌++◌, Result, Ok, sym, ap, subst, ◌∙◌, if◌then◌else◌}
-use Rattle.std.specs.Prelude.{◌&&◌}
 use Rattle.std.proofs.lemmas.List.{append-nil, append_assoc}
 use Rattle.floyd_text.specs.declared.refusal.No.{No}
 use Rattle.floyd_int.specs.declared.kinds.IntOp.{IntOp}
 use Rattle.floyd_ctypes.specs.declared.ctype.CType.{CType}
 use Rattle.floyd_ctypes.specs.Structs.{Structs}
-use Rattle.floyd_clight.specs.declared.syntax.Expr.{Expr, Const, Temp, Var, Deref', AddrOf', Unary', Binary', Cast', Field', SizeOf, end_of-Expr, more_of-Expr}
 use Rattle.floyd_clight.specs.declared.syntax.UnaryOp.{UnaryOp}
-use Rattle.floyd_clight.specs.Types.{type_of}
-use Rattle.floyd_clight_machine.specs.Evaluation.{Look, is_zero_constant}
-use Rattle.floyd_clight_machine.specs.Types.{is_pointer}
+use Rattle.floyd_clight_machine.specs.Evaluation.{Look}
 use Rattle.floyd_tree.specs.Plain.{Plain}
 use Rattle.floyd_tree_values.specs.BuiltIns.{Env}
 use Rattle.floyd_tree_values.specs.Means.{Defs}
@@ -18,7 +14,6 @@ use Rattle.floyd_truth.specs.Truth.{AllTrue}
 use Rattle.floyd_assert_trees.specs.declared.assertion.Assertion.{Assertion}
 use Rattle.floyd_assert_trees.specs.declared.sep.Sep.{Sep}
 use Rattle.floyd_assert_meaning.specs.Settings.{Setting}
-use Rattle.floyd_fieldpath.specs.Nested.{sized_type}
 use Rattle.floyd_fieldpath.specs.Written.{on_ok}
 use Rattle.floyd_symexpr_rows.specs.declared.needs.Needs.{Needs}
 use Rattle.floyd_symexpr_rows.specs.Rows.{null}
@@ -27,8 +22,7 @@ use Rattle.floyd_symexpr_laws.proofs.SideTruths.{all_true_first}
 use Rattle.floyd_symexpr_laws.proofs.TermMeanings.{ok_parts}
 use Rattle.floyd_symexpr_pointer_laws.specs.Laws.{AllValid, Begins, IsMet}
 use Rattle.floyd_symexpr_pointer_laws.proofs.Growth.{of_binary, of_cast, of_unary}
-use Rattle.floyd_symexpr.specs.Expressions.{constant_of, given, operated_cast, operated_one, operated_two, read, size_of, temporary}
-use Rattle.floyd_symexpr_soundness.specs.Laws.{NeedsNoPlace}
+use Rattle.floyd_symexpr.specs.Expressions.{given, operated_cast, operated_one, operated_two}
 
 ok_same : {A : Type 0} (x y : A) → ◌≡◌ {A = Result A No} (Ok x) (Ok y) → x ≡ y
 ok_same x y e = cc
@@ -37,7 +31,7 @@ ok_same x y e = cc
 pub same_term : (t u : Plain) (n m : Needs) → ◌≡◌ {A = Result (Plain × Needs) No} (Ok (t, n)) (Ok (u, m)) → t ≡ u
 same_term t u n m e = ap (λ (p : Plain × Needs). p.0) (ok_same {A = Plain × Needs} (t, n) (u, m) e)
 
-same_need : (t u : Plain) (n m : Needs) → ◌≡◌ {A = Result (Plain × Needs) No} (Ok (t, n)) (Ok (u, m)) → n ≡ m
+pub same_need : (t u : Plain) (n m : Needs) → ◌≡◌ {A = Result (Plain × Needs) No} (Ok (t, n)) (Ok (u, m)) → n ≡ m
 same_need t u n m e = ap (λ (p : Plain × Needs). p.1) (ok_same {A = Plain × Needs} (t, n) (u, m) e)
 
 pub begins_itself : (needs : Needs) → Begins needs needs
@@ -64,13 +58,13 @@ met_before S env look before after b met =
       valid = all_valid_first S.defs env look before.valid b.valid (subst (AllValid S.defs env look) b.all_valid met.valid);
     }
 
-same_needs : (d : Result Plain No) (needs more : Needs) (t : Plain) → given d needs ≡ Ok (t, more) → Begins needs more
+pub same_needs : (d : Result Plain No) (needs more : Needs) (t : Plain) → given d needs ≡ Ok (t, more) → Begins needs more
 same_needs d needs more t e =
     let p = ok_parts d (λ u. Ok (u, needs)) (t, more) e in
     subst (Begins needs) (same_need p.0 t needs more p.2) (begins_itself needs)
 
 module _ (source : Assertion) (structs : Structs) where
-  of_operator : (op : UnaryOp) (T : CType) (u t : Plain) (needs more : Needs) → operated_one op T u needs ≡ Ok (t, more) → Begins needs more
+  pub of_operator : (op : UnaryOp) (T : CType) (u t : Plain) (needs more : Needs) → operated_one op T u needs ≡ Ok (t, more) → Begins needs more
   of_operator op T u t needs more e =
       let p = ok_parts (operand T u) (λ a. unary op a needs) (t, more) e in
       of_unary op p.0 needs more t p.2
@@ -81,31 +75,13 @@ module _ (source : Assertion) (structs : Structs) where
       let q = ok_parts (operand U w) (λ b. binary structs parts op p.0 b needs) (t, more) p.2 in
       of_binary structs parts op p.0 q.0 needs more t q.2
 
-  of_cast_operand : (T to : CType) (u t : Plain) (needs more : Needs) → operated_cast T to u needs ≡ Ok (t, more) → Begins needs more
+  pub of_cast_operand : (T to : CType) (u t : Plain) (needs more : Needs) → operated_cast T to u needs ≡ Ok (t, more) → Begins needs more
   of_cast_operand T to u t needs more e =
       let p = ok_parts (operand T u) (λ a. cast to a needs) (t, more) e in
       of_cast to p.0 needs more t p.2
 
-  of_null : (b : Bool) (T to : CType) (needs more : Needs) (t : Plain) (value : Result (Plain × Needs) No) → ((u : Plain) (middle : Needs) → value ≡ Ok (u, middle) → Begins needs middle) → (if b then Ok (null, needs) else on_ok value (λ v. operated_cast T to v.0 v.1)) ≡ Ok (t, more) → Begins needs more
+  pub of_null : (b : Bool) (T to : CType) (needs more : Needs) (t : Plain) (value : Result (Plain × Needs) No) → ((u : Plain) (middle : Needs) → value ≡ Ok (u, middle) → Begins needs middle) → (if b then Ok (null, needs) else on_ok value (λ v. operated_cast T to v.0 v.1)) ≡ Ok (t, more) → Begins needs more
   of_null true T to needs more t value grow e = subst (Begins needs) (same_need null t needs more e) (begins_itself needs)
   of_null false T to needs more t value grow e =
       let p = ok_parts value (λ v. operated_cast T to v.0 v.1) (t, more) e in
       begins_on needs p.0.1 more (grow p.0.0 p.0.1 p.1) (of_cast_operand T to p.0.0 t p.0.1 more p.2)
-
-  pub grows : (e : Expr) (t : Plain) (needs more : Needs) → NeedsNoPlace e → (read source structs e).value needs ≡ Ok (t, more) → Begins needs more
-  grows (Const x ty) t needs more bare e = same_needs (constant_of ty x) needs more t e
-  grows (Temp x ty) t needs more bare e = same_needs (temporary source.locals x) needs more t e
-  grows (Var binding x ty) t needs more bare e = absurd bare
-  grows (Deref' p a ty) t needs more bare e = absurd bare
-  grows (AddrOf' p a ty) t needs more bare e = absurd bare
-  grows (Unary' op p (more_of-Expr a end_of-Expr) ty) t needs more bare e =
-      let q = ok_parts ((read source structs a).value needs) (λ v. operated_one op (type_of a) v.0 v.1) (t, more) e in
-      begins_on needs q.0.1 more (grows a q.0.0 needs q.0.1 bare q.1) (of_operator op (type_of a) q.0.0 t q.0.1 more q.2)
-  grows (Binary' op p (more_of-Expr a end_of-Expr) q (more_of-Expr b end_of-Expr) ty) t needs more bare e =
-      let r = ok_parts ((read source structs a).value needs) (λ v. on_ok ((read source structs b).value v.1) (λ w. operated_two structs source.parts op (type_of a) v.0 (type_of b) w.0 w.1)) (t, more) e in
-      let s = ok_parts ((read source structs b).value r.0.1) (λ w. operated_two structs source.parts op (type_of a) r.0.0 (type_of b) w.0 w.1) (t, more) r.2 in
-      begins_on needs s.0.1 more (begins_on needs r.0.1 s.0.1 (grows a r.0.0 needs r.0.1 bare.0 r.1) (grows b s.0.0 r.0.1 s.0.1 bare.1 s.1)) (of_operators source.parts op (type_of a) (type_of b) r.0.0 s.0.0 t s.0.1 more s.2)
-  grows (Cast' p (more_of-Expr a end_of-Expr) ty) t needs more bare e =
-      of_null (is_pointer ty && is_zero_constant a) (type_of a) ty needs more t ((read source structs a).value needs) (λ u middle f. grows a u needs middle bare f) e
-  grows (Field' p a x ty) t needs more bare e = absurd bare
-  grows (SizeOf of ty) t needs more bare e = same_needs (size_of structs (sized_type of)) needs more t e

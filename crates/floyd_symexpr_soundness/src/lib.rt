@@ -1,6 +1,6 @@
-//! What the term of an expression means: the value to which the machine evaluates it. Only laws: there is nothing to run.
+//! What the term of an expression means, and where the object of an expression lies. Only laws: there is nothing to run.
 #![tactic(auto)]
 
 mod laws;
 
-pub use laws::evaluation_agrees;
+pub use laws::{expressions_have_values, objects_lie_in_parts};
