@@ -1,5 +1,5 @@
 -- Formulas that need no definitions are well formed over all of them.
-use Rattle.std.proofs.Common.{◌≡◌, ℕ, Bool, true, false, ◌&&◌, cond, List, [], ◌∷◌, ◌++◌, map, All, Option, Some, None, refl, sym, ap, subst, ◌∙◌}
+use Rattle.std.proofs.Common.{◌≡◌, ℕ, true, ◌&&◌, cond, List, [], ◌∷◌, ◌++◌, All, Some, refl, sym, ap, subst, ◌∙◌}
 use Rattle.std.specs.Prelude.{bytes_eq}
 use Rattle.std.specs.Map.{lookup}
 use Rattle.std.proofs.lemmas.List.Elements.{All-cons, All-nil}
@@ -8,9 +8,8 @@ use Rattle.floyd_tree_sorts.specs.declared.connectives.FormulaHead.{FormulaHead}
 use Rattle.floyd_tree_sorts.specs.declared.connectives.FormulaHead.TheVariants.{Forall, Exists}
 use Rattle.floyd_tree_sorts.specs.declared.heads.Head.{Head}
 use Rattle.floyd_tree_sorts.specs.declared.heads.Head.TheVariants.{Variable, Default, Fun}
-use Rattle.floyd_tree_sorts.specs.declared.sorts.Sort.{Sort}
 use Rattle.floyd_tree_sorts.proofs.SortLemmas.{both_true}
-use Rattle.floyd_tree.specs.Formulas.{PlainFormula, PlainFormulas, Says, NoFormula, MoreFormulas, form_of, terms_of, formulas_of, formulas, listed_formulas, well_sorted}
+use Rattle.floyd_tree.specs.Formulas.{PlainFormula, PlainFormulas, Says, NoFormula, MoreFormulas, form_of, terms_of, formulas_of, formulas, well_sorted}
 use Rattle.floyd_tree.specs.Plain.{Plain, Plains, At, Done, More, head_of, kids_of, plains, listed}
 use Rattle.floyd_tree_values.specs.Means.{Defs}
 use Rattle.floyd_tree_values.specs.Rules.{Calls, CallsOf, EachAllowed, AllAllowed}
@@ -19,7 +18,6 @@ use Rattle.floyd_goal_formulas.specs.Fits.{Fits, IsAllowed, AreAllowed, scope_be
 use Rattle.floyd_assert_trees.specs.declared.binder.Binder.{Binder}
 use Rattle.floyd_tree.specs.Code.{plains-listed}
 use Rattle.floyd_tree.specs.FormulaCode.{formulas-listed}
-use Rattle.floyd_pure_formulas.specs.Instances.{is_sort}
 use Rattle.floyd_pure_formulas.specs.VariableCases.{sort_named}
 use Rattle.floyd_pure_formulas.proofs.Substituting.{is_sort_is}
 use Rattle.tests_pure.specs.Known.{all_known, binders_of, formula_known, formulas_known, head_known, known, scope_of, term_known, terms_known}

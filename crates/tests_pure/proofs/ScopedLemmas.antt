@@ -1,5 +1,5 @@
 -- Goals that are judged so are such as commands ask for.
-use Rattle.std.proofs.Common.{◌≡◌, ℕ, Bool, true, false, not, ◌&&◌, cond, List, [], ◌∷◌, ◌++◌, Option, Some, None, refl, sym, ap, subst, ◌∙◌}
+use Rattle.std.proofs.Common.{◌≡◌, ℕ, Bool, true, false, not, ◌&&◌, cond, List, [], ◌∷◌, ◌++◌, Option, Some, None, refl, sym, subst, ◌∙◌}
 use Rattle.std.specs.List.{flat_map}
 use Rattle.std.specs.Prelude.{bytes_eq}
 use Rattle.std.specs.Map.{lookup}
@@ -23,7 +23,6 @@ use Rattle.floyd_goal_changes.specs.Changed.{ExitSortsAgree, GoalSortsAgree, cov
 use Rattle.floyd_goal_formulas.specs.Fits.{Fits}
 use Rattle.floyd_goal_trees.specs.declared.exits.Exit.{Exit}
 use Rattle.floyd_goal_trees.specs.declared.exits.Exit.TheVariants as e
-use Rattle.floyd_goal_trees.specs.declared.exits.Exits.{Exits}
 use Rattle.floyd_goal_trees.specs.declared.exits.Return.{Return}
 use Rattle.floyd_goal_trees.specs.declared.goal.Goal.{Goal}
 use Rattle.floyd_goal_trees.specs.declared.goal.Goal.TheVariants.{Run, Entail, Pure}
@@ -36,7 +35,7 @@ use Rattle.floyd_pure_formulas.specs.VariableCases.{sort_named}
 use Rattle.floyd_pure_formulas.proofs.Substituting.{Suiting, formula_agrees, is_sort_is}
 use Rattle.tests_pure.specs.declared.scoped.Found.{Found}
 use Rattle.tests_pure.specs.Known.{all_known, head_known, known, scope_of, term_known, terms_known}
-use Rattle.tests_pure.specs.Scoped.{IsFound, assertion_known, body_known, exit_known, exits_known, goal_known, has_locals, has_parts, has_props, hypotheses_known, is_pure, locals_known, part_known, parts_known, return_known, said_known, target_known, value_known}
+use Rattle.tests_pure.specs.Scoped.{IsFound, assertion_known, body_known, exit_known, exits_known, goal_known, has_locals, has_parts, has_props, hypotheses_known, is_pure, locals_known, parts_known, return_known, target_known, value_known}
 use Rattle.tests_pure.proofs.KnownLemmas.{all_fit, found_is, known_fits}
 
 -- a term of its sort suits a variable

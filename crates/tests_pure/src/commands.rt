@@ -7,7 +7,7 @@ use crate::scoped::Found;
 use floyd_goal::{Args, Goal, GoalList};
 use floyd_pure::{
     do_cut, do_destruct, do_discriminate, do_exists, do_inject, do_intro, do_law, do_left, do_lia,
-    do_mp, do_refl, do_right, do_specialize, do_split, do_trivial,
+    do_mp, do_refl, do_rewrite, do_right, do_simpl, do_specialize, do_split, do_trivial,
 };
 use floyd_text::{RuleStop, Steps};
 use std::alloc::Global;
@@ -139,6 +139,8 @@ fn on_hypotheses<L: Ledger>(
         "discriminate" => Ok(do_discriminate(alloc, goal, args, defs, specs, steps)),
         "inject" => Ok(do_inject(alloc, goal, args, defs, specs, steps)),
         "law" => Ok(do_law(alloc, goal, args, defs, specs, steps)),
+        "rewrite" => Ok(do_rewrite(alloc, goal, args, defs, specs, steps)),
+        "simpl" => Ok(do_simpl(alloc, goal, args, defs, specs, steps)),
         _ => on_target(alloc, word, trial, steps),
     }
 }

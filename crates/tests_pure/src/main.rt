@@ -50,6 +50,8 @@ fn main(rt: HostRuntime) -> io::Result<()> {
     try_rows(&rt, "quantifiers.txt")?;
     try_rows(&rt, "capture.txt")?;
     try_rows(&rt, "cases.txt")?;
+    try_rows(&rt, "rewriting.txt")?;
+    try_rows(&rt, "simplifying.txt")?;
     try_rows(&rt, "laws.txt")?;
     try_rows(&rt, "sides.txt")?;
     try_rows(&rt, "costs.txt")
