@@ -266,7 +266,7 @@ module _ (S : Setting) (env : Env) (look : Look) (temps : Temps) (source : Asser
 
   reads : (e : Expr) → IsTyped S.defs.structs known e → Reads (read source S.defs.structs e) (type_of e) (eval_by S.defs.structs look temps e) (place_by S.defs.structs look temps e)
   reads (Const v t) typed = rvalue_reads t (given (constant_of t v)) (Some v) None (λ u needs more f met. constant_evaluates S.defs env v t u needs more typed f)
-  reads (Temp x t) typed = rvalue_reads t (given (temporary source.locals x)) (Some (temps x)) None (λ u needs more f met. temporary_evaluates S.defs env temps source.locals x u needs more state.locals (state.values x) f)
+  reads (Temp x t) typed = rvalue_reads t (given (temporary source.locals x)) (Some (temps x)) None (λ u needs more f met. temporary_evaluates S.defs env temps source.locals x u needs more state.locals state.values f)
   reads (Var binding x t) typed =
       object_reads t (λ needs. Ok (variable binding x t, needs)) (eval_by S.defs.structs look temps (Var binding x t)) (option_map start_of (look.block_of binding x)) (value_of_object S.defs.structs look temps (Var binding x t) refl)
       (λ l needs more f met. subst (λ k. Stands S env k t (option_map start_of (look.block_of binding x))) (ok_pair (variable binding x t) l needs more f).0 (stands_variable S env known look binding x t state.names typed))

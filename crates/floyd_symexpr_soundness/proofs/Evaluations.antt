@@ -1,5 +1,6 @@
 -- The machine evaluates an operator or a leaf to the value of its term, where it does so for the operands.
 use Rattle.std.proofs.Common.{◌≡◌, ℕ, ◌^◌, ◌<◌, Bool, true, false, List, [], Option, Some, None, Result, Ok, is_some, refl, sym, ap, subst, ◌∙◌, if◌then◌else◌, arith}
+use Rattle.std.specs.List.{AllByRecursion}
 use Rattle.std.specs.Prelude.{IfSome, IsSome, option_and_then, option_map}
 use Rattle.floyd_text.specs.declared.refusal.No.{No}
 use Rattle.floyd_int.specs.declared.kinds.IntOp.{IntOp}
@@ -40,7 +41,7 @@ use Rattle.floyd_symexpr_pointer_laws.proofs.Growth as growth
 use Rattle.floyd_symexpr_pointer_laws.proofs.Operators.{binary_agrees, cast_agrees, unary_agrees}
 use Rattle.floyd_symexpr.specs.Expressions.{constant_of, given, operated_cast, operated_one, operated_two, size_of, temporary}
 use Rattle.floyd_symexpr_soundness.proofs.Growing.{met_before, same_term}
-use Rattle.floyd_symexpr_soundness.proofs.Leaves.{constant_means, size_means, temporary_means}
+use Rattle.floyd_symexpr_soundness.proofs.Leaves.{constant_means, size_means, temporary_is_value, temporary_means}
 use Rattle.floyd_symexpr_soundness.proofs.RowValues.{IsWhole, of_operand}
 use Rattle.floyd_symexpr_soundness.proofs.RowValues as whole
 
@@ -91,11 +92,11 @@ module _ (defs : Defs) (env : Env) where
       let r = constant_means defs env ty x p.0 typed p.1 in
       subst (λ u. Evaluates defs env u (Some x)) same (at_once p.0 x r.0 r.1)
 
-  pub temporary_evaluates : (temps : Temps) (locals : List Local) (x : List ℕ) (t : Plain) (needs more : Needs) → LocalsHold defs env temps locals → IsValue (temps x) → given (temporary locals x) needs ≡ Ok (t, more) → Evaluates defs env t (Some (temps x))
-  temporary_evaluates temps locals x t needs more hold value e =
+  pub temporary_evaluates : (temps : Temps) (locals : List Local) (x : List ℕ) (t : Plain) (needs more : Needs) → LocalsHold defs env temps locals → AllByRecursion (λ (l : Local). IsValue (temps l.name)) locals → given (temporary locals x) needs ≡ Ok (t, more) → Evaluates defs env t (Some (temps x))
+  temporary_evaluates temps locals x t needs more hold values e =
       let p = ok_parts (temporary locals x) (λ u. Ok (u, needs)) (t, more) e in
       let same : p.0 ≡ t = same_term p.0 t needs more p.2 in
-      subst (λ u. Evaluates defs env u (Some (temps x))) same (at_once p.0 (temps x) (temporary_means defs env temps locals x p.0 hold p.1) value)
+      subst (λ u. Evaluates defs env u (Some (temps x))) same (at_once p.0 (temps x) (temporary_means defs env temps locals x p.0 hold p.1) (temporary_is_value defs env temps locals x p.0 values p.1))
 
   pub size_evaluates : (of : CType) (t : Plain) (needs more : Needs) (o : Option ℕ) → size defs.structs of ≡ o → is_some o ≡ true → ((n : ℕ) → o ≡ Some n → n < 2 ^ 64) → given (size_of defs.structs (sized_type of)) needs ≡ Ok (t, more) → Evaluates defs env t (option_map v.Vlong o)
   size_evaluates of t needs more None sized is low e = absurd cc

@@ -1,5 +1,6 @@
 -- Constants, temporaries and sizes.
 use Rattle.std.proofs.Common.{◌≡◌, ℕ, ◌^◌, ◌<◌, Bool, true, false, ℤ, pos, List, [], ◌∷◌, map, Option, Some, None, Result, Ok, refl, sym, ap, subst, ◌∙◌, if◌then◌else◌, bytes_eq, ltb-true, leb-true, arith}
+use Rattle.std.specs.List.{AllByRecursion}
 use Rattle.std.specs.Prelude.{◌&&◌, option_map}
 use Rattle.std.proofs.lemmas.Slice.Eq.{bytes_eq-Decides}
 use Rattle.floyd_text.specs.declared.refusal.No.{No}
@@ -120,6 +121,15 @@ module _ (defs : Defs) (env : Env) where
   pub temporary_means : (temps : List ℕ → Value) (locals : List Local) (x : List ℕ) (t : Plain) → LocalsHold defs env temps locals → temporary locals x ≡ Ok t → Means defs env t (Val (temps x))
   temporary_means temps [] x t hold e = absurd cc
   temporary_means temps (l ∷ locals) x t hold e = temporary_by temps l locals x t (bytes_eq x l.name) refl hold.0 (temporary_means temps locals x t hold.1) e
+
+  -- it is one of the machine's, as each is
+  pub temporary_is_value : (temps : List ℕ → Value) (locals : List Local) (x : List ℕ) (t : Plain) → AllByRecursion (λ (l : Local). IsValue (temps l.name)) locals → temporary locals x ≡ Ok t → IsValue (temps x)
+  temporary_is_value temps [] x t all e = absurd cc
+  temporary_is_value temps (l ∷ locals) x t all e = by (bytes_eq x l.name) refl e (temporary_is_value temps locals x t all.1)
+    where
+      by : (b : Bool) → bytes_eq x l.name ≡ b → ◌≡◌ {A = Result Plain No} (if b then Ok l.term else temporary locals x) (Ok t) → (temporary locals x ≡ Ok t → IsValue (temps x)) → IsValue (temps x)
+      by true f g later = subst (λ y. IsValue (temps y)) (sym ((bytes_eq-Decides x l.name).0 f)) all.0
+      by false f g later = later g
 
   -- ---- sizes
 

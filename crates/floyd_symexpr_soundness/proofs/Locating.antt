@@ -1,5 +1,5 @@
 -- What the part in which an object lies has of it.
-use Rattle.std.proofs.Common.{◌≡◌, ℕ, zero, suc, ◌+◌, ◌<◌, ◌≤◌, ◌^◌, true, ◌&&◌, ℤ, pos, ◌+ℤ◌, List, [], ◌∷◌, ◌++◌, length, Option, Some, None, Ok, refl, sym, ap, ap₂, subst, ◌∙◌, if◌then◌else◌, arith}
+use Rattle.std.proofs.Common.{◌≡◌, ℕ, zero, suc, ◌+◌, ◌<◌, ◌≤◌, ◌^◌, true, ◌&&◌, ℤ, pos, ◌+ℤ◌, List, [], ◌∷◌, ◌++◌, length, Option, Some, None, Ok, refl, sym, ap, ap₂, subst, ◌∙◌, if◌then◌else◌, arith, IsTrue, inr}
 use Rattle.std.specs.Prelude.{◌==◌, option_and_then, option_map}
 use Rattle.std.specs.List.{AllByRecursion}
 use Rattle.std.proofs.lemmas.Bool.{eq-eqb}
@@ -16,14 +16,14 @@ use Rattle.floyd_clight.specs.declared.syntax.Expr.{Expr}
 use Rattle.floyd_clight.specs.Types.{type_of}
 use Rattle.floyd_clight_memory.specs.Loads.{load_by}
 use Rattle.floyd_clight_memory.specs.Memory.{Mem, store}
-use Rattle.floyd_clight_heap.specs.Heaplet.{Cell, Fits, Heaplet, Joins, JoinsAt, Owned, Within, both, byte_of}
+use Rattle.floyd_clight_heap.specs.Heaplet.{Cell, Fits, Heaplet, Joins, JoinsAt, Within, both, byte_of, laid, spread}
 use Rattle.floyd_clight_heap.specs.Loads.{Shows}
-use Rattle.floyd_clight_heap.proofs.Stores.{whole_is_owned}
+use Rattle.floyd_clight_heap.proofs.Stores.{WholeAt, WholeFrom, laid_spread, whole, whole_alone, whole_owns, with_new}
 use Rattle.floyd_clight_heap.proofs.Sums.{assoc, assoc_back}
 use Rattle.floyd_clight_machine.specs.Evaluation.{Look, Spot, Temps, place_by, value_at}
 use Rattle.floyd_clight_machine.specs.Footprint.{chunk_spots, loads_at, place_loads, spots, value_loads}
 use Rattle.floyd_clight_machine.specs.Machine.{store_as, store_at}
-use Rattle.floyd_clight_runs.specs.Safe.{AllOwned, AllWithin}
+use Rattle.floyd_clight_runs.specs.Safe.{AllWithin}
 use Rattle.floyd_clight_typing.specs.Expressions.{IsTyped, Names, is_place}
 use Rattle.floyd_tree_sorts.specs.declared.shape.Shape.{Shape}
 use Rattle.floyd_tree_sorts.specs.declared.shape.Shape as shapes
@@ -38,20 +38,23 @@ use Rattle.floyd_tree_values.specs.Data.{Datum, Val}
 use Rattle.floyd_tree_values.specs.Defaults.{value_sort}
 use Rattle.floyd_tree_values.specs.Means.{Means}
 use Rattle.floyd_truth.specs.Truth.{AllTrue}
-use Rattle.floyd_assert_cells.specs.Cells.{Cells, IsCell, within}
+use Rattle.floyd_assert_cells.specs.Cells.{Cells, FormCells, IsCell, ScalarCells, within}
+use Rattle.floyd_assert_cells.specs.Forms.{Single}
 use Rattle.floyd_assert_cells.specs.Cells as cells
 use Rattle.floyd_assert_cells.specs.Laws.{IsExact}
-use Rattle.floyd_assert_cells.specs.Scalars.{Scalar, Address, Integer, chunk, scalar_of, scalar_size, shape_scalar}
+use Rattle.floyd_assert_cells.specs.Scalars.{Scalar, Address, Integer, chunk, holds, scalar_of, scalar_size, shape_scalar}
+use Rattle.floyd_memval.specs.Encoding.{encoding}
+use Rattle.floyd_memval.proofs.RoundTrips.{length-encoding}
 use Rattle.floyd_assert_cells.specs.Types.{Sized, size_by}
 use Rattle.floyd_assert_cells.proofs.Exact.{chunk_fits, within_from}
 use Rattle.floyd_assert_cells.proofs.FormLaws.{chained}
-use Rattle.floyd_assert_cells.proofs.ObjectLaws.{cells_are_exact, scalars_held, scalars_loaded, scalars_stored}
-use Rattle.floyd_assert_cells.proofs.ScalarLaws.{chunk_agrees, holds_agrees, shape_agrees}
+use Rattle.floyd_assert_cells.proofs.ObjectLaws.{cells_are_exact, closed, opened, scalars_held, scalars_loaded, scalars_stored}
+use Rattle.floyd_assert_cells.proofs.ScalarLaws.{chunk_agrees, comes_back, form_is_single, holds_agrees, shape_agrees}
 use Rattle.floyd_assert_trees.specs.declared.assertion.Assertion.{Assertion}
 use Rattle.floyd_assert_trees.specs.declared.sep.Region.{Region}
 use Rattle.floyd_assert_trees.specs.declared.sep.Sep.{Sep}
 use Rattle.floyd_assert_trees.specs.declared.sep.Sep.TheVariants.{FieldAt}
-use Rattle.floyd_assert_meaning.specs.Parts.{PathMeans, RegionMeans, sized_as}
+use Rattle.floyd_assert_meaning.specs.Parts.{ObjectHolds, PathMeans, RegionMeans, sized_as}
 use Rattle.floyd_assert_meaning.specs.Settings.{Setting}
 use Rattle.floyd_fieldpath.specs.Nested.{sized_type}
 use Rattle.floyd_fieldpath.specs.Nested as nested
@@ -72,7 +75,7 @@ use Rattle.floyd_symexpr_paths.specs.Locating.{agreeing_end, agreeing_step, agre
 use Rattle.floyd_symexpr_paths.specs.Places.{path_of, subscript_ranges}
 use Rattle.floyd_symexpr.specs.Expressions.{read}
 use Rattle.floyd_symexpr.specs.Locate.{locate}
-use Rattle.floyd_symexpr_soundness.specs.Laws.{IsAt, IsLoaded, IsLocated, IsStored, LiesIn, ObjectIsSorted, PartIsSorted, StandsIn, Meets}
+use Rattle.floyd_symexpr_soundness.specs.Laws.{IsAt, IsLoaded, IsLocated, IsOwned, IsStored, LiesIn, Meets, ObjectIsSorted, PartIsSorted, StandsIn}
 use Rattle.floyd_symexpr_soundness.proofs.Adding.{Adds, adds_parts, form_adds}
 use Rattle.floyd_symexpr_soundness.proofs.Bounding.{bounds_follow, said_before}
 use Rattle.floyd_symexpr_soundness.proofs.Evaluating.{stands_for}
@@ -113,9 +116,15 @@ all_within : (h : Heaplet) (n b o : ℕ) → ((p : ℕ) → o ≤ p → p < o + 
 all_within h zero b o f = tt
 all_within h (suc n) b o f = (f o (omega arith) (omega arith), all_within h n b (o + 1) (λ p l m. f p (omega (arith, l)) (omega (arith, m))))
 
-all_owned : (h : Heaplet) (n b o : ℕ) → ((p : ℕ) → o ≤ p → p < o + n → Owned h b p) → AllOwned h (spots n b o)
-all_owned h zero b o f = tt
-all_owned h (suc n) b o f = (f o (omega arith) (omega arith), all_owned h n b (o + 1) (λ p l m. f p (omega (arith, l)) (omega (arith, m))))
+all_whole : (h : Heaplet) (n b o : ℕ) → ((p : ℕ) → o ≤ p → p < o + n → WholeAt h b p) → WholeFrom n h b o
+all_whole h zero b o f = tt
+all_whole h (suc n) b o f = (f o (omega arith) (omega arith), all_whole h n b (o + 1) (λ p l m. f p (omega (arith, l)) (omega (arith, m))))
+
+-- bytes that are laid down in a part are laid down in the whole
+laid_joins : (bytes : List MemByte) (g k h : Heaplet) (b o : ℕ) → Joins g k h → WholeFrom (length bytes) g b o → Joins (laid bytes b o g) k (laid bytes b o h)
+laid_joins [] g k h b o j w = j
+laid_joins (byte ∷ bytes) g k h b o j w =
+    with_new (laid bytes b (o + 1) g) k (laid bytes b (o + 1) h) b o (whole byte) (laid_joins bytes g k h b (o + 1) j w.1) (whole_alone g k h b o w.0 j)
 
 some_cell : (less : ℕ) (k : Option Cell) → IsCell less true k → (c : Cell) × (k ≡ Some c) × (c.less ≡ less)
 some_cell less None w = absurd w
@@ -175,6 +184,18 @@ less_is less e =
     let n : 16 ≡ suc less = cc in
     omega (arith, n)
 
+-- a scalar with a value laid down over another one
+scalar_laid : (structs : Structs) (t : Sized) (s : Scalar) (v w : Value) (b o : ℕ) (h : Heaplet) → shape_scalar t.shape ≡ Some s → Cells structs (pos 16) t (Val v) b o h → IsTrue (holds s w) → Cells structs (pos 16) t (Val w) b o (laid (encoding (chunk s) w) b o h)
+scalar_laid structs t s v w b o h is c good =
+    let q = opened structs (pos 16) t (Val v) b o h c in
+    let single : Single s ≡ q.form = form_is_single structs t.shape t.sizes s q.form is q.of in
+    let own : ScalarCells 15 b s v o h = subst (λ n. FormCells n b (Single s) (Val v) o h) (less_is q.less q.is) (subst (λ f. FormCells q.less b f (Val v) o h) (sym single) q.holds) in
+    let bytes = encoding (chunk s) w in
+    let laid_is : laid bytes b o h ≡ spread 15 bytes b o = ap (laid bytes b o) own.exact ∙ laid_spread own.bytes bytes b o (own.count ∙ sym (length-encoding (chunk s) w)) in
+    subst (Cells structs (pos 16) t (Val w) b o) (sym laid_is)
+    (closed structs 15 t (Val w) b o (spread 15 bytes b o) (Single s) (omega arith) (q.of ∙ ap Some (sym single))
+    (record { bytes = bytes; count = length-encoding (chunk s) w; exact = refl; reads = inr (good, comes_back s w good) }))
+
 module _ (S : Setting) (env : Env) (look : Look) (temps : Temps) (e : Expr) where
   -- what is loaded for an object whose place is found without a load
   loads_are : (t : CType) (spot : Spot) → is_place e ≡ true → type_of e ≡ t → place_loads S.defs.structs look temps e ≡ [] → place_by S.defs.structs look temps e ≡ Some spot → value_loads S.defs.structs look temps e ≡ chunk_spots (chunk_of t) (Some spot)
@@ -203,20 +224,20 @@ module _ (S : Setting) (env : Env) (look : Look) (temps : Temps) (e : Expr) wher
         (all_within h (chunk_size (chunk s)) site.spot.block site.spot.offset
         (λ p l m. (let c = place_cell s sc p l m in within_part site.here site.others h site.spot.block p site.joins (record { cell = c.0; has = c.1 }))))
 
-    owned_at : (s : Scalar) → scalar_of (type_of e) ≡ Some s → site.at.means.share ≡ pos 16 → (p : ℕ) → site.spot.offset ≤ p → p < site.spot.offset + chunk_size (chunk s) → Owned h site.spot.block p
-    owned_at s sc full p l m =
+    -- with the share 16 they are whole, and so they are in the heaplet
+    whole_here : (s : Scalar) → scalar_of (type_of e) ≡ Some s → site.at.means.share ≡ pos 16 → (p : ℕ) → site.spot.offset ≤ p → p < site.spot.offset + chunk_size (chunk s) → WholeAt site.here site.spot.block p
+    whole_here s sc full p l m =
         let c = place_cell s sc p l m in
-        let less : c.0.less ≡ 15 = c.2 ∙ less_is exact.less (sym full ∙ exact.is) in
-        whole_is_owned h site.spot.block p (record { cell = c.0; has = whole_part site.here site.others h site.spot.block p c.0 site.joins c.1 less; less = less })
+        record { cell = c.0; has = c.1; less = c.2 ∙ less_is exact.less (sym full ∙ exact.is) }
 
-    all_places_owned : site.at.means.share ≡ pos 16 → AllOwned h (chunk_spots (chunk_of (type_of e)) (Some site.spot))
-    all_places_owned full = by (scalar_of (type_of e)) refl
-      where
-        by : (o : Option Scalar) → scalar_of (type_of e) ≡ o → AllOwned h (chunk_spots (chunk_of (type_of e)) (Some site.spot))
-        by (Some s) sc =
-            subst (λ c. AllOwned h (chunk_spots c (Some site.spot))) (sym (chunk_is (type_of e) s sc))
-            (all_owned h (chunk_size (chunk s)) site.spot.block site.spot.offset (owned_at s sc full))
-        by None sc = subst (λ c. AllOwned h (chunk_spots c (Some site.spot))) (sym (chunk_agrees (type_of e) ∙ ap (option_map chunk) sc)) tt
+    owned : (s : Scalar) → scalar_of (type_of e) ≡ Some s → site.at.means.share ≡ pos 16 → IsOwned s site.spot h
+    owned s sc full =
+        record {
+          aligned = site.aligned s (shape_of_scalar s sc);
+          places = whole_owns (chunk_size (chunk s)) h site.spot.block site.spot.offset
+              (all_whole h (chunk_size (chunk s)) site.spot.block site.spot.offset
+              (λ p l m. (let c = whole_here s sc full p l m in record { cell = c.cell; has = whole_part site.here site.others h site.spot.block p c.cell site.joins c.has c.less; less = c.less })));
+        }
 
     loaded : (s : Scalar) (t : Plain) → scalar_of (type_of e) ≡ Some s → project S.defs.structs w path value ≡ Ok t → IsLoaded S env look temps e t h
     loaded s t sc made =
@@ -254,6 +275,21 @@ module _ (S : Setting) (env : Env) (look : Look) (temps : Temps) (e : Expr) wher
           holds = site.back ValSort new updated (Val v) st.here b.0 (scalar_sort structs (type_of e) s sc) sort mean made b.1
               (subst (λ q. Cells structs q site.type (Val v) site.spot.block site.spot.offset st.here) (sym full) st.holds);
         }
+
+    laid_down : (s : Scalar) (v : Value) (new updated : Plain) → scalar_of (type_of e) ≡ Some s → has (type_of e) v ≡ true → sort_of new ≡ Some ValSort → Means S.defs env new (Val v) →
+        update S.defs.structs w path value new ≡ Ok updated → site.at.means.share ≡ pos 16 → ObjectHolds S env region updated (laid (encoding (chunk s) v) site.spot.block site.spot.offset h)
+    laid_down s v new updated sc good sort mean made full =
+        let structs = S.defs.structs in
+        let block = site.spot.block in
+        let offset = site.spot.offset in
+        let bytes = encoding (chunk s) v in
+        let whole = all_whole site.here (chunk_size (chunk s)) block offset (whole_here s sc full) in
+        let joins = laid_joins bytes site.here site.others h block offset site.joins (subst (λ n. WholeFrom n site.here block offset) (sym (length-encoding (chunk s) v)) whole) in
+        let held = scalars_held structs site.at.means.share site.type s site.item block offset site.here (shape_of_scalar s sc) site.holds in
+        let cells_here = subst (λ q. Cells structs q site.type (Val held.0) block offset site.here) full (subst (λ d. Cells structs site.at.means.share site.type d block offset site.here) held.1 site.holds) in
+        let new_cells = scalar_laid structs site.type s held.0 v block offset site.here (shape_of_scalar s sc) cells_here (sym (holds_agrees (type_of e) s v sc) ∙ good) in
+        site.back ValSort new updated (Val v) (laid bytes block offset site.here) (laid bytes block offset h) (scalar_sort structs (type_of e) s sc) sort mean made joins
+        (subst (λ q. Cells structs q site.type (Val v) block offset (laid bytes block offset site.here)) (sym full) new_cells)
 
 -- ---- located objects
 
@@ -393,7 +429,8 @@ module _ (S : Setting) (env : Env) (look : Look) (temps : Temps) (source : Asser
         at = is_at (path_of rest) s.spot s.at;
         loaded = λ r t. loaded S env look temps e form.part.region form.part.value (path_of rest) ends.0 (adds.0 +ℤ adds.1) g s is bare place r t;
         stored = λ r v new updated F k m. stored S env look temps e form.part.region form.part.value (path_of rest) ends.0 (adds.0 +ℤ adds.1) g s is bare place r v new updated F k m;
-        owned = all_places_owned S env look temps e form.part.region form.part.value (path_of rest) ends.0 (adds.0 +ℤ adds.1) g s is bare place;
+        owned = λ r. owned S env look temps e form.part.region form.part.value (path_of rest) ends.0 (adds.0 +ℤ adds.1) g s is bare place r;
+        laid_down = λ r v new updated. laid_down S env look temps e form.part.region form.part.value (path_of rest) ends.0 (adds.0 +ℤ adds.1) g s is bare place r v new updated;
       }
 
   is_located : IsLocated S env look temps source.parts e given

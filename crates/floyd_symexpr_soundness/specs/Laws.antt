@@ -8,18 +8,19 @@ use Rattle.floyd_ctypes.specs.declared.field.Field.{Field}
 use Rattle.floyd_ctypes.specs.Has.{has}
 use Rattle.floyd_ctypes.specs.Layout.{IsLaidOut}
 use Rattle.floyd_ctypes.specs.Structs.{Structs, fields_of}
-use Rattle.floyd_memval.specs.Chunks.{chunk_of}
+use Rattle.floyd_memval.specs.Chunks.{chunk_size}
+use Rattle.floyd_memval.specs.Encoding.{encoding}
 use Rattle.floyd_clight.specs.declared.syntax.Binding.{Binding}
 use Rattle.floyd_clight.specs.declared.syntax.Binding.TheVariants.{Block, File}
 use Rattle.floyd_clight.specs.declared.syntax.Expr.{Expr}
 use Rattle.floyd_clight.specs.Types.{type_of}
-use Rattle.floyd_clight_memory.specs.Memory.{Mem}
-use Rattle.floyd_clight_heap.specs.Heaplet.{Fits, Heaplet, Joins}
+use Rattle.floyd_clight_memory.specs.Memory.{Mem, is_aligned}
+use Rattle.floyd_clight_heap.specs.Heaplet.{Fits, Heaplet, Joins, OwnsFrom, laid}
 use Rattle.floyd_clight_heap.specs.Loads.{Shows}
 use Rattle.floyd_clight_machine.specs.Evaluation.{Look, Spot, Temps, eval_by, place_by}
-use Rattle.floyd_clight_machine.specs.Footprint.{chunk_spots, place_loads, value_loads}
+use Rattle.floyd_clight_machine.specs.Footprint.{place_loads, value_loads}
 use Rattle.floyd_clight_machine.specs.Machine.{store_at}
-use Rattle.floyd_clight_runs.specs.Safe.{AllOwned, AllWithin}
+use Rattle.floyd_clight_runs.specs.Safe.{AllWithin}
 use Rattle.floyd_clight_typing.specs.Expressions.{IsTyped, Names, type_named}
 use Rattle.floyd_tree_sorts.specs.declared.sorts.Sort.{Sort, Val as ValSort}
 use Rattle.floyd_tree.specs.declared.paths.PathStep.{PathStep}
@@ -31,9 +32,10 @@ use Rattle.floyd_tree_values.specs.Data.{IsValue, Val}
 use Rattle.floyd_tree_values.specs.Defaults.{value_sort}
 use Rattle.floyd_tree_values.specs.Means.{Means}
 use Rattle.floyd_assert_cells.specs.Cells as cells
-use Rattle.floyd_assert_cells.specs.Scalars.{Scalar, scalar_of}
+use Rattle.floyd_assert_cells.specs.Scalars.{Scalar, chunk, scalar_of}
 use Rattle.floyd_assert_cells.specs.Types.{Step}
 use Rattle.floyd_assert_trees.specs.declared.assertion.Assertion.{Assertion}
+use Rattle.floyd_assert_trees.specs.declared.assertion.Local.{Local}
 use Rattle.floyd_assert_trees.specs.declared.sep.Region.{Region}
 use Rattle.floyd_assert_trees.specs.declared.sep.Sep.{Sep}
 use Rattle.floyd_assert_trees.specs.declared.sep.Sep.TheVariants.{FieldAt}
@@ -67,10 +69,11 @@ pub record AreLaidOut (structs : Structs) : Type 0 where
   pub laid : (tag : List ℕ) (fields : List Field) → fields_of structs tag ≡ Some fields → IsLaidOut structs tag fields
 
 -- Temporaries, and what an evaluation sees, meet an assertion under an environment: each temporary of LOCAL has its value,
--- and the parts hold of a heaplet, each place of which is seen to be valid. The names stand in their blocks.
+-- which is one of the machine's, and the parts hold of a heaplet, each place of which is seen to be valid. The names stand
+-- in their blocks, and the structs lie as their fields do.
 pub record Meets (S : Setting) (env : Env) (look : Look) (temps : Temps) (source : Assertion) (h : Heaplet) (known : Names) : Type 0 where
   pub locals : LocalsHold S.defs env temps source.locals
-  pub values : (x : List ℕ) → IsValue (temps x)
+  pub values : AllByRecursion (λ (l : Local). IsValue (temps l.name)) source.locals
   pub parts : PartsHold S env source.parts h
   pub sees : Sees look h
   pub names : NamesStand known env look
@@ -148,8 +151,14 @@ pub record IsStored (S : Setting) (env : Env) (r : Region) (updated : Plain) (t 
   pub fits : Fits sum mem
   pub holds : ObjectHolds S env r updated here
 
+-- a scalar may be written over in a heaplet: its places are aligned, and nothing else has them
+pub record IsOwned (s : Scalar) (spot : Spot) (h : Heaplet) : Type 0 where
+  pub aligned : is_aligned (chunk s) spot.offset ≡ true
+  pub places : OwnsFrom (chunk_size (chunk s)) h spot.block spot.offset
+
 -- What a heaplet of which the part holds has of the object: its place, and where it is a scalar, its value, which is the item
--- of the part's value. A value of its type may be stored there, if the part has the share 16; then nothing else has the places.
+-- of the part's value. If the part has the share 16, a value of its type may be stored
+-- there, and then the part holds with the updated value; and so it does of the heaplet with the value laid down there.
 pub record StandsIn (S : Setting) (env : Env) (look : Look) (temps : Temps) (parts : List Sep) (e : Expr) (given : Located) (lies : LiesIn S.defs.structs parts given (type_of e)) (h : Heaplet) : Type 0 where
   pub spot : Spot
   pub place : place_by S.defs.structs look temps e ≡ Some spot
@@ -159,7 +168,11 @@ pub record StandsIn (S : Setting) (env : Env) (look : Look) (temps : Temps) (par
       scalar_of (type_of e) ≡ Some s → has (type_of e) v ≡ true → sort_of new ≡ Some ValSort → Means S.defs env new (Val v) →
       update S.defs.structs lies.type lies.rest lies.value new ≡ Ok updated → at.means.share ≡ pos 16 → Joins h F k → Fits k m →
       IsStored S env lies.region updated (type_of e) spot v F m
-  pub owned : at.means.share ≡ pos 16 → AllOwned h (chunk_spots (chunk_of (type_of e)) (Some spot))
+  pub owned : (s : Scalar) → scalar_of (type_of e) ≡ Some s → at.means.share ≡ pos 16 → IsOwned s spot h
+  pub laid_down : (s : Scalar) (v : Value) (new updated : Plain) →
+      scalar_of (type_of e) ≡ Some s → has (type_of e) v ≡ true → sort_of new ≡ Some ValSort → Means S.defs env new (Val v) →
+      update S.defs.structs lies.type lies.rest lies.value new ≡ Ok updated → at.means.share ≡ pos 16 →
+      ObjectHolds S env lies.region updated (laid (encoding (chunk s) v) spot.block spot.offset h)
 
 pub record IsLocated (S : Setting) (env : Env) (look : Look) (temps : Temps) (parts : List Sep) (e : Expr) (given : Located) : Type 0 where
   pub lies : LiesIn S.defs.structs parts given (type_of e)
