@@ -1,0 +1,2 @@
+-- Lemmas on clauses.
+pub mod OpeningLemmas

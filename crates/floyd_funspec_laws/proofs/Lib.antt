@@ -1,0 +1,3 @@
+-- Lemmas on instances of specifications.
+pub mod Made
+pub mod Says
