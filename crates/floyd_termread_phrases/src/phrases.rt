@@ -1,5 +1,5 @@
 //! Terms, formulas, types and paths.
-ghost use Rattle.std.specs.Prelude.{◌≡◌, ◌≤◌, ◌<◌, ◌^◌, OnOk, length};
+ghost use Rattle.std.specs.Prelude.{◌≡◌, ◌≤◌, ◌<◌, ◌^◌, IfOk, OnOk, length};
 ghost use Rattle.std.specs.Option.{option_copied};
 ghost use Rattle.floyd_termread_scope.specs.Scopes.{env, sort_of};
 ghost use Rattle.floyd_termread_phrases.specs.Phrases as specs;
@@ -35,6 +35,8 @@ pub fn term_at(
     requires at { spot.at ≤ length text.tokens.now.items }
     requires count { length text.tokens.now.items < 2 ^ 32 }
     ensures exact { Answers (λ x. x) (specs.term text.entry.bytes.now text.entry.tokens.now spot.depth (env scope.now bound.now) (option_copied expected.entry) spot.at) result }
+    ensures from { IfOk result (λ x. spot.at ≤ x.1) }
+    ensures within { IfOk result (λ x. x.1 ≤ length text.entry.tokens.now.items) }
 {
     let Passage { tree, end } = read_written(
         alloc,
@@ -59,6 +61,8 @@ pub fn formula_at(
     requires at { spot.at ≤ length text.tokens.now.items }
     requires count { length text.tokens.now.items < 2 ^ 32 }
     ensures exact { Answers (λ x. x) (specs.formula text.entry.bytes.now text.entry.tokens.now spot.depth (env scope.now bound.old) spot.at) result }
+    ensures from { IfOk result (λ x. spot.at ≤ x.1) }
+    ensures within { IfOk result (λ x. x.1 ≤ length text.entry.tokens.now.items) }
     ensures kept { OnOk result (sort_of bound.new ≡ sort_of bound.old) }
 {
     let Passage { tree, end } = read_written(
@@ -83,6 +87,8 @@ pub fn type_at(
     requires at { spot.at ≤ length text.tokens.now.items }
     requires count { length text.tokens.now.items < 2 ^ 32 }
     ensures exact { Answers (λ x. x) (specs.type_name text.entry.bytes.now text.entry.tokens.now spot.depth (env scope.now bound.now) spot.at) result }
+    ensures from { IfOk result (λ x. spot.at ≤ x.1) }
+    ensures within { IfOk result (λ x. x.1 ≤ length text.entry.tokens.now.items) }
 {
     let Passage { tree, end } = read_written(
         alloc,
@@ -106,6 +112,8 @@ pub fn path_at(
     requires at { spot.at ≤ length text.tokens.now.items }
     requires count { length text.tokens.now.items < 2 ^ 32 }
     ensures exact { Answers (λ x. x) (specs.path text.entry.bytes.now text.entry.tokens.now spot.depth (env scope.now bound.now) spot.at) result }
+    ensures from { IfOk result (λ x. spot.at ≤ x.1) }
+    ensures within { IfOk result (λ x. x.1 ≤ length text.entry.tokens.now.items) }
 {
     let Passage { tree, end } = read_written(
         alloc,
