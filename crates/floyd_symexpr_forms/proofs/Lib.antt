@@ -1,0 +1,7 @@
+pub mod Answers
+pub mod Rows
+pub mod Pointers
+pub mod Places
+pub mod Readings
+pub mod Locations
+pub mod Items
