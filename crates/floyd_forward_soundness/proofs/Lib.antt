@@ -1,0 +1,4 @@
+pub mod Locals
+pub mod Needs
+pub mod Setting
+pub mod Leaving
