@@ -1,0 +1,3 @@
+pub mod ControlLemmas
+pub mod RowAnswers
+pub mod WhileLemmas

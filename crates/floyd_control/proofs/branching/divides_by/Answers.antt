@@ -1,0 +1,25 @@
+use Rattle.std.specs.Option.{option_copied}
+use Rattle.std.proofs.lemmas.Result.{err_from_is_err_and}
+use Rattle.floyd_goal_runs.proofs.NeedLemmas.{needing_from, needing_stops}
+use Rattle.floyd_control.specs.ForwardIf.{divided}
+use Rattle.floyd_control.proofs.branching.divides_by.Goals as goal
+
+pub returns-in_err-side : goal.returns-in_err-side
+returns-in_err-side g c =
+    let run = c.args.at.run.now in
+    let d = c.args.c.now in
+    let p = err_from_is_err_and c.from_residual.result c.from_residual.ensures.1 in
+    record {
+      exact = rw (p.1, p.2)
+          (needing_stops run.context run.source d.needs (divided run (option_copied c.args.a) d.branches c.args.forks.met.now c.args.forks.unmet.now) c.as_slice-formulas.result.now c.in_err-side.field-0.0
+          c.as_slice-formulas.ensures c.in_err-side.ensures.exact);
+    }
+
+pub returns : goal.returns
+returns g c =
+    let run = c.args.at.run.now in
+    let d = c.args.c.now in
+    record {
+      exact = needing_from run.context run.source d.needs (divided run (option_copied c.args.a) d.branches c.args.forks.met.now c.args.forks.unmet.now) c.as_slice-formulas.result.now c.as_slice.result.now c.in_ok-side.side
+          c.in_ok-side.context c.in_ok-goals.goals c.in_ok-needed.field-0 c.as_slice-formulas.ensures c.as_slice.ensures c.in_ok-side.ensures.exact c.in_ok-goals.ensures c.in_ok-needed.ensures;
+    }

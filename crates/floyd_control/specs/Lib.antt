@@ -1,0 +1,6 @@
+-- Definitions that contracts cite.
+pub mod ForwardIf
+pub mod ForwardLoop
+pub mod ForwardWhile
+pub mod LoopClauses
+pub mod Parts
