@@ -34,12 +34,12 @@ use Rattle.floyd_import_laws.proofs.Sorted.{Suiting, all_good, formed_agrees, li
 
 -- ---- the parts of an answer
 
-record Goes (A B : Type 0) (r : Result A No) (f : A → Result B No) (b : B) : Type 0 where
+pub record Goes (A B : Type 0) (r : Result A No) (f : A → Result B No) (b : B) : Type 0 where
   pub value : A
   pub first : r ≡ Ok value
   pub then' : f value ≡ Ok b
 
-goes : {A B : Type 0} (r : Result A No) (f : A → Result B No) (b : B) → on_ok r f ≡ Ok b → Goes A B r f b
+pub goes : {A B : Type 0} (r : Result A No) (f : A → Result B No) (b : B) → on_ok r f ≡ Ok b → Goes A B r f b
 goes (Ok a) f b e = record { value = a; first = refl; then' = e }
 goes (Err refusal) f b e = absurd cc
 
@@ -52,18 +52,18 @@ same_ok a b e = cc
 abbrev too_large : No
 too_large = record { code = TermTooLarge; shown = Nothing }
 
-within : {T : Type 0} (test : T → Bool) (x r : T) → within_limits test x ≡ Ok r → r ≡ x
+pub within : {T : Type 0} (test : T → Bool) (x r : T) → within_limits test x ≡ Ok r → r ≡ x
 within test x r e = by (test x) e
   where
     by : (c : Bool) → (if c then Ok x else Err too_large) ≡ Ok r → r ≡ x
     by true i = cc
     by false i = absurd cc
 
-record Taken (bs : List Binder) (ts : List Plain) (by : List (List ℕ × Plain)) : Type 0 where
+pub record Taken (bs : List Binder) (ts : List Plain) (by : List (List ℕ × Plain)) : Type 0 where
   pub is : by ≡ pairs bs ts
   pub sorts : have_sorts bs ts ≡ true
 
-taken_is : (bs : List Binder) (ts : List Plain) (by : List (List ℕ × Plain)) → taken bs ts ≡ Ok by → Taken bs ts by
+pub taken_is : (bs : List Binder) (ts : List Plain) (by : List (List ℕ × Plain)) → taken bs ts ≡ Ok by → Taken bs ts by
 taken_is bs ts by e = so (length ts == length bs) (have_sorts bs ts) refl e
   where
     so : (c d : Bool) → have_sorts bs ts ≡ d → (if c then if d then Ok (pairs bs ts) else Err ill_sorted else Err (wrong_count (length ts))) ≡ Ok by → Taken bs ts by
@@ -99,7 +99,7 @@ made spec terms i e =
 
 -- ---- sorts
 
-sort_is : (s : Sort) (o : Option Sort) → is_sort s o ≡ true → o ≡ Some s
+pub sort_is : (s : Sort) (o : Option Sort) → is_sort s o ≡ true → o ≡ Some s
 sort_is s None h = absurd cc
 sort_is s (Some r) h = ap Some (same_sort_true r s h)
 

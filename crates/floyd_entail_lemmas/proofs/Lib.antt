@@ -1,0 +1,2 @@
+-- Lemmas on the command that uses a lemma.
+pub mod ApplyLemmas

@@ -1,0 +1,2 @@
+-- Lemmas on lemmas at terms.
+pub mod Taking

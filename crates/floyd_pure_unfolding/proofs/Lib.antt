@@ -1,0 +1,2 @@
+-- Lemmas on the command that replaces calls.
+pub mod Stopping

@@ -1,0 +1,2 @@
+-- Lemmas on calls of FUNs.
+pub mod Taking
