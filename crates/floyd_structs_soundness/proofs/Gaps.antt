@@ -81,14 +81,17 @@ module _ (structs : Structs) where
       let more = mapped (FieldAt f.name (offset_after laid l) k) (fields_form (struct_form (completes structs) structs) (after laid l) fs) g first.2 in
       ap₂ (λ m n. m + n) (ap (λ o. unwrap_or o 0) (size_of f.ty k first.1)) (bytes_are (after laid l) fs more.0 more.1) ∙ ap sizes more.2
 
-  -- the bytes that are in no field are none
-  pub no_padding : (tag : List ℕ) (fs : List Field) (g : Fields) (less b o : ℕ) (h : Heaplet) → struct_form (completes structs) structs tag ≡ Some (Struct g) → fields_form (struct_form (completes structs) structs) nothing_laid fs ≡ Some g → IsFields 0 g →
-      has_padding structs tag fs ≡ false → HasExactly less b (is_padding o g) h → h ≡ empty
-  no_padding tag fs g less b o h form laid order none exact =
+  -- no byte is in no field
+  pub nothing_between : (tag : List ℕ) (fs : List Field) (g : Fields) (o : ℕ) → struct_form (completes structs) structs tag ≡ Some (Struct g) → fields_form (struct_form (completes structs) structs) nothing_laid fs ≡ Some g → IsFields 0 g → has_padding structs tag fs ≡ false → (y : ℕ) → is_padding o g y ≡ false
+  nothing_between tag fs g o form laid order none y =
       let whole : unwrap_or (size structs (c.Struct tag)) 0 ≡ end_of g = ap (λ k. unwrap_or k 0) (size_of (c.Struct tag) (Struct g) form) in
       let equal : field_bytes structs fs ≡ unwrap_or (size structs (c.Struct tag)) 0 = eqb-true (field_bytes structs fs) (unwrap_or (size structs (c.Struct tag)) 0) (twice (nat_eq (field_bytes structs fs) (unwrap_or (size structs (c.Struct tag)) 0)) none) in
-      none_there less b (is_padding o g) h (no_gap o g order (sym (bytes_are nothing_laid fs g laid) ∙ equal ∙ whole)) exact
+      no_gap o g order (sym (bytes_are nothing_laid fs g laid) ∙ equal ∙ whole) y
     where
       twice : (t : Bool) → not t ≡ false → t ≡ true
       twice true e = refl
       twice false e = absurd cc
+
+  pub no_padding : (tag : List ℕ) (fs : List Field) (g : Fields) (less b o : ℕ) (h : Heaplet) → struct_form (completes structs) structs tag ≡ Some (Struct g) → fields_form (struct_form (completes structs) structs) nothing_laid fs ≡ Some g → IsFields 0 g →
+      has_padding structs tag fs ≡ false → HasExactly less b (is_padding o g) h → h ≡ empty
+  no_padding tag fs g less b o h form laid order none exact = none_there less b (is_padding o g) h (nothing_between tag fs g o form laid order none) exact

@@ -39,7 +39,7 @@ legal_on structs (step ∷ path) t u i l e m =
 some_found : (k : Form) (m n : ℕ) → m ≡ n → ◌≡◌ {A = Option Found} (Some (record { form = k; offset = m })) (Some (record { form = k; offset = n }))
 some_found k m n e = ap (λ o. Some (record { form = k; offset = o })) e
 
-form_on : (path : List Step) (f : Form) (g k : Found) (i : Step) → form_at f path ≡ Some g → step_in g.form i ≡ Some k → form_at f (path ++ i ∷ []) ≡ Some (record { form = k.form; offset = g.offset + k.offset })
+pub form_on : (path : List Step) (f : Form) (g k : Found) (i : Step) → form_at f path ≡ Some g → step_in g.form i ≡ Some k → form_at f (path ++ i ∷ []) ≡ Some (record { form = k.form; offset = g.offset + k.offset })
 form_on [] f g k i e s =
     let same : record { form = f; offset = 0 } ≡ g = same_Some {A = Found} (record { form = f; offset = 0 }) g e in
     let here : step_in f i ≡ Some k = ap (λ (x : Found). step_in x.form i) same ∙ s in

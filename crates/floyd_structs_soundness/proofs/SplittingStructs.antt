@@ -64,7 +64,7 @@ use Rattle.floyd_structs_soundness.proofs.Named.{Same, all_same, both_parts, fir
 
 -- ---- parts that are structs
 
-record StructIs (structs : Structs) (p : Sep) (s : StructPart) : Type 0 where
+pub record StructIs (structs : Structs) (p : Sep) (s : StructPart) : Type 0 where
   pub part_is : p ≡ ObjectAt s.region s.value
   pub typed : type_at structs s.region.ty s.region.path ≡ Some s.ty
   pub shape : s.ty.shape ≡ StructShape s.tag
@@ -78,7 +78,7 @@ shaped structs r v t s e (Pointer' p u) f g = absurd cc
 shaped structs r v t s e (Array' p u) f g = absurd cc
 shaped structs r v t s e (Function' q ps p u) f g = absurd cc
 
-struct_is : (structs : Structs) (p : Sep) (s : StructPart) → struct_of structs p ≡ Ok s → StructIs structs p s
+pub struct_is : (structs : Structs) (p : Sep) (s : StructPart) → struct_of structs p ≡ Ok s → StructIs structs p s
 struct_is structs (ObjectAt r v) s e =
     let a = on_ok_is (nested_type structs r.ty r.path) (with_type r v) s e in
     shaped structs r v a.0 s (typed_at structs r.ty a.0 r.path a.1) a.0.shape refl a.2

@@ -4,4 +4,4 @@
 
 mod laws;
 
-pub use laws::split_struct_is_sound;
+pub use laws::{join_struct_is_sound, split_struct_is_sound};
