@@ -1,0 +1,2 @@
+-- Lemmas on addresses that are valid.
+pub mod Validated
