@@ -2,11 +2,14 @@
 ghost use Rattle.std.specs.Prelude.{◌≡◌, ◌≤◌, ◌<◌, ◌^◌, length};
 ghost use Rattle.std.specs.Option.{option_copied};
 ghost use Rattle.floyd_termread.specs.Brackets.{open_before, outermost};
+ghost use Rattle.floyd_termread_assertions.specs.Assertions as assertions;
 ghost use Rattle.floyd_termread_phrases.specs.Phrases as specs;
 ghost use Rattle.floyd_termread_phrases.specs.Reads.{Answers};
 
 use crate::brackets::spot_at;
+use floyd_assert_trees::Assertion;
 use floyd_lex::Tokens;
+use floyd_termread_assertions::assertion_at;
 use floyd_termread_phrases::{Text, formula_at, path_at, term_at, type_at};
 use floyd_termread_scope::{Scope, Variables};
 use floyd_text::Halt;
@@ -103,6 +106,31 @@ pub fn read_path(
         alloc,
         scope,
         &bound,
+        Text { bytes, tokens },
+        spot_at(tokens, at),
+    )
+}
+
+/// The assertion from the token of this number on, as `read_term` has a term: its existentials, PROP, LOCAL, if it is there,
+/// and SEP. Two temporaries of one name, and two existentials, are 501 at the later name. A part whose type has no values,
+/// or whose path leads to nothing, or in `padding` to no struct, is 503 at that type or path; a wrong number of arguments of
+/// a predicate is 503 where their list closes; a default value that is too large is 802 at the word `data_at_`.
+pub fn read_assertion(
+    alloc: Global,
+    scope: &Scope<'_>,
+    bytes: &[u8],
+    tokens: &Tokens,
+    at: u32,
+) -> Result<(Assertion, u32), Halt>
+    requires at { at ≤ length tokens.now.items }
+    requires count { length tokens.now.items < 2 ^ 32 }
+    ensures exact { Answers (λ x. x) (assertions.assertion bytes.now tokens.now (open_before tokens.now at) (outermost scope.now) at) result }
+{
+    let mut bound = Variables::new(alloc);
+    assertion_at(
+        alloc,
+        scope,
+        &mut bound,
         Text { bytes, tokens },
         spot_at(tokens, at),
     )

@@ -2,9 +2,10 @@
 ghost use Rattle.std.specs.Prelude.{◌<◌, ◌^◌, length};
 
 use crate::sorts::sort_of;
-use floyd_assert::equal_formula;
+use floyd_assert::{equal_formula, equal_part};
+use floyd_assert_trees::{Assertion, Binder, Local, Sep};
 use floyd_lex::{FileKind, Tokens, tokens};
-use floyd_termread::{Scope, read_formula, read_path, read_term, read_type};
+use floyd_termread::{Scope, read_assertion, read_formula, read_path, read_term, read_type};
 use floyd_text::{Code, Halt, Place, Refusal, Shown};
 use floyd_tree::{AType, Formula, Path, Sort, Term, equal};
 use std::alloc::{AllocError, Global};
@@ -20,6 +21,7 @@ pub(crate) enum Kind {
     Formula,
     Type,
     Path,
+    Assertion,
     Unknown,
 }
 
@@ -34,6 +36,7 @@ impl Kind {
             b"formula" => Ok(Kind::Formula),
             b"type" => Ok(Kind::Type),
             b"path" => Ok(Kind::Path),
+            b"assertion" => Ok(Kind::Assertion),
             _ => Ok(Kind::Unknown),
         }
     }
@@ -46,13 +49,41 @@ enum Phrase {
     Formula(Formula),
     Type(AType),
     Path(Path),
+    Assertion(Assertion),
     Nothing,
+}
+
+fn same_binders(a: &[Binder], b: &[Binder]) -> bool {
+    a.len() == b.len() && a.iter().zip(b).all(|(x, y)| x.same(y))
+}
+
+fn same_formulas(a: &[Formula], b: &[Formula]) -> bool {
+    a.len() == b.len() && a.iter().zip(b).all(|(x, y)| equal_formula(x, y))
+}
+
+fn same_locals(a: &[Local], b: &[Local]) -> bool {
+    a.len() == b.len()
+        && a.iter()
+            .zip(b)
+            .all(|(x, y)| x.name == y.name && equal(&x.term, &y.term))
+}
+
+fn same_parts(a: &[Sep], b: &[Sep]) -> bool {
+    a.len() == b.len() && a.iter().zip(b).all(|(x, y)| equal_part(x, y))
+}
+
+fn same_assertion(a: &Assertion, b: &Assertion) -> bool {
+    same_binders(a.existentials.as_slice(), b.existentials.as_slice())
+        && same_formulas(a.props.as_slice(), b.props.as_slice())
+        && same_locals(a.locals.as_slice(), b.locals.as_slice())
+        && same_parts(a.parts.as_slice(), b.parts.as_slice())
 }
 
 fn is_same(a: &Phrase, b: &Phrase) -> bool {
     match (a, b) {
         (Phrase::Term(a), Phrase::Term(b)) => equal(a, b),
         (Phrase::Formula(a), Phrase::Formula(b)) => equal_formula(a, b),
+        (Phrase::Assertion(a), Phrase::Assertion(b)) => same_assertion(a, b),
         _ => false,
     }
 }
@@ -87,6 +118,10 @@ fn phrase_of(
         Kind::Path => {
             let (path, next) = read_path(alloc, scope, bytes, list, 0)?;
             Ok((Phrase::Path(path), next))
+        }
+        Kind::Assertion => {
+            let (assertion, next) = read_assertion(alloc, scope, bytes, list, 0)?;
+            Ok((Phrase::Assertion(assertion), next))
         }
         Kind::Unknown => Ok((Phrase::Nothing, 0)),
     }

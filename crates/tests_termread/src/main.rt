@@ -1,4 +1,4 @@
-//! Texts of terms, formulas, types and paths, and what they read as, by the tables in `data/`, whose heads say their form.
+//! Texts of terms, formulas, types, paths and assertions, and what they read as, by the tables in `data/`, whose heads say their form.
 //! Each row that is answered otherwise is printed, and at the end how many agreed.
 #![tactic(auto)]
 
@@ -13,7 +13,7 @@ use rows::agree;
 use std::{fs, io};
 use world::{World, world_of};
 
-const TABLES: [&str; 3] = ["terms.txt", "formulas.txt", "types.txt"];
+const TABLES: [&str; 4] = ["terms.txt", "formulas.txt", "types.txt", "assertions.txt"];
 
 fn main(rt: HostRuntime) -> io::Result<()> {
     let alloc = rt.alloc();

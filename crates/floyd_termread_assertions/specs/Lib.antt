@@ -1,0 +1,4 @@
+-- Definitions that contracts cite.
+pub mod Existentials
+pub mod Assertions
+pub mod BoundClauses
