@@ -1,0 +1,4 @@
+pub mod ArgumentExact
+pub mod PhraseExact
+pub mod RoomLemmas
+pub mod TokenSets

@@ -1,0 +1,2 @@
+pub mod ArgumentClauses
+pub mod Grammar
