@@ -1,0 +1,16 @@
+use Rattle.std.proofs.Common.{ℕ, Ok, Err, refl}
+use Rattle.floyd_lex.specs.declared.kinds.Punctuator.TheVariants as p
+use Rattle.floyd_tree.specs.declared.weights.Weight.{Weight}
+use Rattle.floyd_termread_marks.specs.Lists.{next_item}
+use Rattle.floyd_play_arguments.specs.Arguments as specs
+use Rattle.floyd_play_arguments.proofs.Chains.{stopped, carried}
+use Rattle.floyd_play_arguments.proofs.lists.next_weight.Goals as goal
+
+pub returns-in_err-first-clause-exact : goal.returns-in_err-first-clause-exact
+returns-in_err-first-clause-exact c =
+    stopped (λ (x : Weight × ℕ). x) (next_item c.args.text.bytes.now c.args.text.tokens.now 1 p.Comma (specs.weight c.args.text.bytes.now c.args.text.tokens.now) c.args.weights.now c.args.at) c.from_residual.result c.in_err-first.field-0.0 c.from_residual.ensures.1 (λ refusal e. (Err refusal, rw e at c.in_err-first.ensures.exact, refl))
+
+pub returns-clause-exact : goal.returns-clause-exact
+returns-clause-exact c =
+    carried (λ (x : Weight × ℕ). x) (next_item c.args.text.bytes.now c.args.text.tokens.now 1 p.Comma (specs.weight c.args.text.bytes.now c.args.text.tokens.now) c.args.weights.now c.args.at) c.weight_at.result (specs.weight c.args.text.bytes.now c.args.text.tokens.now c.args.weights.now c.in_ok-first.first) c.weight_at.ensures.exact
+    (λ a d. (Ok (tt, c.in_ok-first.first), c.in_ok-first.ensures.exact, d))

@@ -1,0 +1,6 @@
+//! What names stand for in the arguments of a command.
+#![tactic(auto)]
+
+mod scopes;
+
+pub use scopes::variables_of;
