@@ -64,11 +64,11 @@ pub passed : (b : Bool) (why : No) (Next : Answer → Type 0) (goals : List Goal
 passed true why Next goals h = absurd cc
 passed false why Next goals h = (refl, h)
 
-of_result : {A : Type 0} (d : Result A No) (Next : A → Answer → Type 0) (goals : List Goal) → OfResult d Next (Ok goals) → (a : A) × (d ≡ Ok a) × Next a (Ok goals)
+pub of_result : {A : Type 0} (d : Result A No) (Next : A → Answer → Type 0) (goals : List Goal) → OfResult d Next (Ok goals) → (a : A) × (d ≡ Ok a) × Next a (Ok goals)
 of_result (Ok a) Next goals h = (a, refl, h)
 of_result (Err why) Next goals h = absurd cc
 
-no_more : (bs : List Binder) → some_left bs ≡ false → bs ≡ []
+pub no_more : (bs : List Binder) → some_left bs ≡ false → bs ≡ []
 no_more [] e = refl
 no_more (b ∷ bs) e = absurd cc
 
@@ -82,7 +82,7 @@ module _ (defs : Defs) (scope : Scope) where
   numbers_in [] h = tt
   numbers_in (t ∷ ts) h = (h.0.fits, numbers_in ts h.1)
 
-  locals_in : (ls : List Local) → AllByRecursion (λ (l : Local). TermFits defs scope ValSort l.term) ls → AllByRecursion (λ (l : Local). TermIn (value_defs defs) scope ValSort l.term) ls
+  pub locals_in : (ls : List Local) → AllByRecursion (λ (l : Local). TermFits defs scope ValSort l.term) ls → AllByRecursion (λ (l : Local). TermIn (value_defs defs) scope ValSort l.term) ls
   locals_in [] h = tt
   locals_in (l ∷ ls) h = (h.0.fits, locals_in ls h.1)
 
@@ -93,7 +93,7 @@ module _ (defs : Defs) (scope : Scope) where
   part_sized preds Anything h = tt
   part_sized preds (Predicate name terms) h = tt
 
-  parts_sized : (preds : Predicates) (ps : List Sep) → PartsFit defs scope preds ps → AllByRecursion (PartIsSized (value_defs defs) scope) ps
+  pub parts_sized : (preds : Predicates) (ps : List Sep) → PartsFit defs scope preds ps → AllByRecursion (PartIsSized (value_defs defs) scope) ps
   parts_sized preds [] h = tt
   parts_sized preds (p ∷ ps) h = (part_sized preds p h.0, parts_sized preds ps h.1)
 
