@@ -11,6 +11,10 @@ statement_rules =
     r.Forward ∷ r.ForwardIf ∷ r.ForwardWhile ∷ r.ForwardLoop ∷ r.ForwardSwitch ∷ r.ForwardCall ∷ r.ForwardCallPtr ∷
     r.UseSpec ∷ []
 
+-- those of threads
+abbrev pub thread_rules : List Rule
+thread_rules = r.ForwardAcquire ∷ r.ForwardRelease ∷ r.ForwardSpawn ∷ []
+
 abbrev pub part_rules : List Rule
 part_rules =
     r.Intros ∷ r.Exists ∷ r.Cancel ∷ r.Weaken ∷ r.Unfold ∷ r.Fold ∷ r.Facts ∷ r.Valid ∷ r.Apply ∷ r.Induction ∷
@@ -40,4 +44,4 @@ or_else (Some rule) other = Some rule
 or_else None other = other
 
 unfoldable pub rule_of : List ℕ → Option Rule
-rule_of text = or_else (rule_in statement_rules text) (or_else (rule_in part_rules text) (or_else (rule_in memory_rules text) (or_else (rule_in hypothesis_rules text) (rule_in pure_rules text))))
+rule_of text = or_else (rule_in statement_rules text) (or_else (rule_in thread_rules text) (or_else (rule_in part_rules text) (or_else (rule_in memory_rules text) (or_else (rule_in hypothesis_rules text) (rule_in pure_rules text)))))

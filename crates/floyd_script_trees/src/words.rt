@@ -12,6 +12,9 @@ pub fn rule_of(text: &[u8]) -> Option<Rule>
     if let Some(rule) = statement_rule(text) {
         return Some(rule);
     }
+    if let Some(rule) = thread_rule(text) {
+        return Some(rule);
+    }
     if let Some(rule) = part_rule(text) {
         return Some(rule);
     }
@@ -37,6 +40,20 @@ fn statement_rule(text: &[u8]) -> Option<Rule>
         b"forward_call_ptr" => Some(Rule::ForwardCallPtr),
         b"use_spec" => Some(Rule::UseSpec),
         _ => None,
+    }
+}
+
+fn thread_rule(text: &[u8]) -> Option<Rule>
+    ensures { result ≡ specs.rule_in specs.thread_rules text.now }
+{
+    if text == b"forward_acquire".as_slice() {
+        Some(Rule::ForwardAcquire)
+    } else if text == b"forward_release".as_slice() {
+        Some(Rule::ForwardRelease)
+    } else if text == b"forward_spawn".as_slice() {
+        Some(Rule::ForwardSpawn)
+    } else {
+        None
     }
 }
 
