@@ -31,7 +31,8 @@ fn said<L: Ledger>(
     }
 }
 
-fn equal<L: Ledger>(
+/// `a = b`.
+pub fn equal<L: Ledger>(
     alloc: Global,
     a: &Term,
     b: &Term,
@@ -57,7 +58,7 @@ fn at_most<L: Ledger>(
 
 /// `a <> b`.
 #[tactic(auto, using(floyd_symexpr_rows::proofs::PartLemmas::equation_stops, floyd_symexpr_rows::proofs::PartLemmas::absurd_stops, floyd_symexpr_rows::proofs::PartLemmas::different_gives))]
-fn different<L: Ledger>(
+pub fn different<L: Ledger>(
     alloc: Global,
     a: &Term,
     b: &Term,

@@ -7,4 +7,5 @@ mod formulas;
 mod testing;
 
 pub use branches::{Branches, Condition};
+pub use formulas::{different, equal};
 pub use testing::{Reader, condition};

@@ -1,4 +1,4 @@
-use Rattle.std.proofs.Common.{◌<◌, ◌≤◌, length, Option, sym, subst, arith}
+use Rattle.std.proofs.Common.{◌<◌, ◌≤◌, length, sym, subst, arith}
 use Rattle.floyd_goal.specs.Answers.{IsAnswer}
 use Rattle.floyd_control.specs.ForwardWhile.{OfLoop}
 use Rattle.floyd_control.proofs.WhileLemmas.{one_loop}
