@@ -24,14 +24,14 @@ use Rattle.floyd_formed_quantifiers.proofs.Replacing.{changed_formed}
 use Rattle.floyd_formed_entail.proofs.Changing.{AreInside, IsInside, apart, locals_changed, names_stay, parts_changed, suits_by}
 use Rattle.floyd_formed_renaming.proofs.Existentials.{new_distinct, ready_inside}
 
-weight_inside : (old new : List Binder) (ch : Changes) → weight (below_existentials ch old new) ≡ weight ch
+pub weight_inside : (old new : List Binder) (ch : Changes) → weight (below_existentials ch old new) ≡ weight ch
 weight_inside [] new ch = refl
 weight_inside (b ∷ old) [] ch = refl
 weight_inside (b ∷ old) (c ∷ new) ch = weight_inside old new ((b.name, Called c.name) ∷ ch)
 
 module _ (defs : Defs) (specs : SpecTable) (changes : Changes) (old new : Scope) (free bound : List ℕ → Bool) (suits : Suiting changes old) (ready : Ready defs changes old new free bound) where
   -- the formulas of PROP
-  props_changed : (fs : List PlainFormula) → weight changes + formula_sizes (formulas fs) < 2 ^ 63 → ((v : List ℕ) → formulas_mention v (formulas fs) ≡ true → free v ≡ true) → ((v : List ℕ) → bound_in_some v (formulas fs) ≡ true → bound v ≡ true) →
+  pub props_changed : (fs : List PlainFormula) → weight changes + formula_sizes (formulas fs) < 2 ^ 63 → ((v : List ℕ) → formulas_mention v (formulas fs) ≡ true → free v ≡ true) → ((v : List ℕ) → bound_in_some v (formulas fs) ≡ true → bound v ≡ true) →
       FormulasFit defs specs old fs → FormulasFit defs specs new (map (replaced_formula changes) fs)
   props_changed [] l k q h = tt
   props_changed (a ∷ fs) l k q h = (
@@ -43,7 +43,7 @@ module _ (defs : Defs) (specs : SpecTable) (changes : Changes) (old new : Scope)
   )
 
   -- what is free in a list of terms
-  terms_inside : (ts : List Plain) → ((v : List ℕ) → mentions_in v (plains ts) ≡ true → free v ≡ true) → AreInside defs changes old new free ready.leads ts
+  pub terms_inside : (ts : List Plain) → ((v : List ℕ) → mentions_in v (plains ts) ≡ true → free v ≡ true) → AreInside defs changes old new free ready.leads ts
   terms_inside [] k = tt
   terms_inside (t ∷ ts) k = ((λ v i. k v (or_left (mentions v t) (mentions_in v (plains ts)) i)), terms_inside ts (λ v i. k v (or_right (mentions v t) (mentions_in v (plains ts)) i)))
 

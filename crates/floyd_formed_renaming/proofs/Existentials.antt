@@ -44,7 +44,7 @@ not_left true true false h k i = absurd cc
 not_left true false c h k i = absurd cc
 not_left false b c h k i = refl
 
-name_append : (v : List ℕ) (bs cs : List Binder) → has_name v (bs ++ cs) ≡ (has_name v bs || has_name v cs)
+pub name_append : (v : List ℕ) (bs cs : List Binder) → has_name v (bs ++ cs) ≡ (has_name v bs || has_name v cs)
 name_append v bs cs = list_any-append (λ (b : Binder). bytes_eq v b.name) bs cs
 
 -- ---- scopes with a binder more
@@ -65,7 +65,7 @@ in_middle : (xs : List Binder) (b : Binder) (more : List Binder) → IsOneOf (na
 in_middle [] b more = inl refl
 in_middle (x ∷ xs) b more = inr (in_middle xs b more)
 
-not_before : (xs : List Binder) (b : Binder) (more : List Binder) → AreDistinct (names_with (xs ++ b ∷ more)) → has_name b.name xs ≡ false
+pub not_before : (xs : List Binder) (b : Binder) (more : List Binder) → AreDistinct (names_with (xs ++ b ∷ more)) → has_name b.name xs ≡ false
 not_before [] b more d = refl
 not_before (x ∷ xs) b more d =
     both_false (bytes_eq b.name x.name) (has_name b.name xs) (apart b.name x.name (λ e. d.0 (subst (IsOneOf (names_with (xs ++ b ∷ more))) e (in_middle xs b more)))) (not_before xs b more d.1)
@@ -77,7 +77,7 @@ module _ (defs : Defs) (ch : Changes) (a : Assertion) (old new : Scope) where
   Marked more v z = IsApart (body_mentions a) (body_binds a) v z × (has_name z more ≡ false)
 
   -- once the existentials `before` have the names `done`, and `more` are left
-  record State (before done more : List Binder) (now : Changes) : Type 0 where
+  pub record State (before done more : List Binder) (now : Changes) : Type 0 where
     pub leads : (v : List ℕ) → body_mentions a v ≡ true → has_name v more ≡ false → Leads defs now (scope_with before ++ old) (scope_with done ++ new) v
     pub called : (v z : List ℕ) → lookup (bytes_eq v) now ≡ Some (Called z) → (has_name z done ≡ true) × ((v ≡ z) ⊎ Marked more v z)
     pub put' : (v : List ℕ) (t : Plain) → lookup (bytes_eq v) now ≡ Some (Put t) → (lookup (bytes_eq v) ch ≡ Some (Put t)) × (has_name v before ≡ false)
@@ -176,10 +176,10 @@ module _ (defs : Defs) (ch : Changes) (a : Assertion) (old new : Scope) where
             let k = s.put' v t e in
             (k.0, name_append v before (b ∷ []) ∙ both_false (has_name v before) (has_name v (b ∷ [])) k.1 (both_false (bytes_eq v b.name) false q refl))
 
-    next : State (before ++ b ∷ []) (done ++ c ∷ []) more ((b.name, Called c.name) ∷ now)
+    pub next : State (before ++ b ∷ []) (done ++ c ∷ []) more ((b.name, Called c.name) ∷ now)
     next = record { leads = leads_next; called = called_next; put' = put_next }
 
-  all_done : (before done : List Binder) (now : Changes) → State before done [] now → Ready defs now (scope_with before ++ old) (scope_with done ++ new) (body_mentions a) (body_binds a)
+  pub all_done : (before done : List Binder) (now : Changes) → State before done [] now → Ready defs now (scope_with before ++ old) (scope_with done ++ new) (body_mentions a) (body_binds a)
   all_done before done now s = record { leads = λ v e. s.leads v e refl; kept = λ v z l. last v z (s.called v z l).1 }
     where
       last : (v z : List ℕ) → (v ≡ z) ⊎ Marked [] v z → (v ≡ z) ⊎ IsApart (body_mentions a) (body_binds a) v z

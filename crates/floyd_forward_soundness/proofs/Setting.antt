@@ -2,11 +2,13 @@
 use Rattle.std.proofs.Common.{◌≡◌, ℕ, Bool, true, false, List, [], ◌∷◌, ◌++◌, drop, Some, Result, Ok, Err, slice_get, refl, sym, ap, subst, All}
 use Rattle.std.specs.List.{AllByRecursion}
 use Rattle.floyd_text.specs.declared.refusal.No.{No}
+use Rattle.floyd_int.specs.declared.kinds.Value.{Value}
 use Rattle.floyd_clight.specs.declared.syntax.Expr.{Expr}
 use Rattle.floyd_clight.specs.declared.syntax.Stmt.{Stmt, Set}
 use Rattle.floyd_clight_heap.specs.Heaplet.{Heaplet}
 use Rattle.floyd_clight_machine.specs.Machine.{Act, set_in}
 use Rattle.floyd_clight_runs.specs.Calls.{KeepsBelow, SafeAll, with_normal}
+use Rattle.floyd_clight_runs.specs.Needs.{value_in}
 use Rattle.floyd_clight_runs.specs.Seen.{seen}
 use Rattle.floyd_clight_runs.proofs.Rows.{set_safe}
 use Rattle.floyd_clight_typing.specs.Bodies.{names_in}
@@ -16,7 +18,8 @@ use Rattle.floyd_tree.specs.Plain.{Plain}
 use Rattle.floyd_tree_values.specs.BuiltIns.{Env}
 use Rattle.floyd_tree_values.specs.Data.{Val}
 use Rattle.floyd_tree_values.specs.Means.{Means}
-use Rattle.floyd_tree_values.specs.Rules.{Scope}
+use Rattle.floyd_tree_values.specs.Rules.{AreDistinct, Scope}
+use Rattle.floyd_assert_trees.specs.declared.assertion.Assertion.{Assertion}
 use Rattle.floyd_assert_trees.specs.declared.assertion.Local.{Local}
 use Rattle.floyd_assert_trees.specs.declared.binder.Binder.{Binder}
 use Rattle.floyd_assert_trees.specs.declared.items.Defs.{Defs}
@@ -29,12 +32,13 @@ use Rattle.floyd_goal.specs.Goals.{enriched, intros_first, some_left}
 use Rattle.floyd_goal.specs.Rows.{Answer}
 use Rattle.floyd_goal_parts.specs.Rows.{OfResult, Unless}
 use Rattle.floyd_goal_trees.specs.Contexts.{context_of, scope_of}
+use Rattle.floyd_goal_trees.specs.declared.context.Context.{Context}
 use Rattle.floyd_goal_trees.specs.declared.exits.Exit as e
 use Rattle.floyd_goal_trees.specs.declared.exits.Exit.TheVariants as x
 use Rattle.floyd_goal_trees.specs.declared.goal.Goal.{Goal}
 use Rattle.floyd_goal_trees.specs.declared.goal.Goal.TheVariants.{Run}
 use Rattle.floyd_goal_trees.specs.declared.goal.Run as r
-use Rattle.floyd_goal_forms.specs.Assertions.{PartFits, PartsFit, Predicates, PredicatesOf, inner_scope}
+use Rattle.floyd_goal_forms.specs.Assertions.{PartFits, PartsFit, Predicates, PredicatesOf, inner_scope, locals_of}
 use Rattle.floyd_goal_forms.specs.Goals.{RunFits}
 use Rattle.floyd_goal_forms.specs.Starts.{by_rest, run_goal}
 use Rattle.floyd_goal_forms.specs.Terms.{TermFits, scope_with}
@@ -97,6 +101,17 @@ module _ (defs : Defs) (scope : Scope) where
   parts_sized preds [] h = tt
   parts_sized preds (p ∷ ps) h = (part_sized preds p h.0, parts_sized preds ps h.1)
 
+-- a source without existentials is well formed in the scope of the context
+module _ (defs : Defs) (specs : SpecTable) (run : r.Run) (fits : RunFits defs specs run) (bare : run.source.existentials ≡ []) where
+  pub same_scope : inner_scope run.source (scope_of run.context) ≡ scope_of run.context
+  same_scope = ap (λ bs. scope_with bs ++ scope_of run.context) bare
+
+  pub source_fits : SourceFits (value_defs defs) (scope_of run.context) run.source
+  source_fits = subst (λ s. SourceFits (value_defs defs) s run.source) same_scope (record {
+    locals = locals_in defs (inner_scope run.source (scope_of run.context)) run.source.locals fits.source.locals;
+    parts = parts_sized defs (inner_scope run.source (scope_of run.context)) (PredicatesOf defs (inner_scope run.source (scope_of run.context))) run.source.parts fits.source.parts;
+  })
+
 -- ---- what is left runs on
 
 rest_context : (run : r.Run) (ss : List Stmt) (exit : e.Exit) → run.context ≡ context_of (by_rest run ss exit)
@@ -120,18 +135,52 @@ module _ (L : Linked) (more : List Further) (place : Places) (specs : SpecTable)
       by [] x.End e f g = subst (λ ss. SafeAll (world L more place) n ss (goal_exits S env run.exits) act h) e (g keeps act h stands)
       by (s ∷ ss) exit e f g = subst (λ ts. SafeAll (world L more place) n ts (goal_exits S env run.exits) act h) e (g keeps act h stands)
 
+-- behind a statement, what is left is safe from a source from which its goal holds
+module _ (defs : Defs) (specs : SpecTable) (n : ℕ) (run : r.Run) (s : Stmt) (rest : List Stmt) (next : run.rest ≡ s ∷ rest) (context : Context) (source : Assertion) (one : HoldsFor defs specs n (runs_on run context source))
+    (L : Linked) (more : List Further) (place : Places) (has : Has L defs specs) (apart : AreApart L more place) (lemmas : LemmasAreTrue (setting L more place) defs) (env : Env) (there : Given (setting L more place) defs context env)
+    (keeps : KeepsBelow (world L more place) (sight L more place specs) n) where
+  pub goes_on : (act : Act) (h : Heaplet) → Stands (setting L more place) env run.exits.ret source act h → SafeAll (world L more place) n rest (goal_exits (setting L more place) env run.exits) act h
+  goes_on act h stands =
+      let made : r.Run = record run { context = context; source = source; rest = drop 1 run.rest } in
+      let holds = one.in_each L more place has apart lemmas env (subst (λ c. Given (setting L more place) defs c env) (rest_context made made.rest made.exits.normal) there) in
+      subst (λ ss. SafeAll (world L more place) n ss (goal_exits (setting L more place) env run.exits) act h) (ap (drop 1) next) (runs_safe L more place specs n env made holds keeps act h stands)
+
 -- ---- the set
 
+-- where what is left holds from the source in which the temporary has a term, and the expression has the term's value
+module _ (defs : Defs) (specs : SpecTable) (n : ℕ) (run : r.Run) (y : List ℕ) (ex : Expr) (rest : List Stmt) (next : run.rest ≡ Set y ex ∷ rest) (bare : run.source.existentials ≡ []) (distinct : AreDistinct (locals_of run.source)) (t : Plain) (context : Context)
+    (one : HoldsFor defs specs n (runs_on run context (with_temp y t run.source)))
+    (L : Linked) (more : List Further) (place : Places) (has : Has L defs specs) (apart : AreApart L more place) (lemmas : LemmasAreTrue (setting L more place) defs) (env : Env) (there : Given (setting L more place) defs context env)
+    (keeps : KeepsBelow (world L more place) (sight L more place specs) n) (act : Act) (h : Heaplet) (stands : Stands (setting L more place) env run.exits.ret run.source act h)
+    (value : Value) (means : Means (setting L more place).defs env t (Val value)) (evaluates : value_in (program L more place) act h ex ≡ Some value) where
+  abbrev U : Setting
+  U = setting L more place
+
+  pub set_on : SafeAll (world L more place) n (Set y ex ∷ rest) (goal_exits U env run.exits) act h
+  set_on =
+      let inner = with_data env run.source.existentials stands.holds.witnesses in
+      let same_env : inner ≡ env = ap (λ bs. with_data env bs stands.holds.witnesses) bare in
+      let later : Stands U env run.exits.ret (with_temp y t run.source) (set_in (Some y) value act) h = record {
+        result = stands.result;
+        blocks = stands.blocks;
+        distinct = stands.distinct;
+        places = stands.places;
+        holds = record {
+          witnesses = stands.holds.witnesses;
+          sorted = stands.holds.sorted;
+          props = stands.holds.props;
+          locals = set_locals U.defs inner act.temps y t value (subst (λ o. Means U.defs o t (Val value)) (sym same_env) means) run.source.locals distinct stands.holds.locals;
+          parts = stands.holds.parts;
+        };
+      } in
+      set_safe (world L more place) n y ex act h (with_normal (SafeAll (world L more place) n rest (goal_exits U env run.exits)) (goal_exits U env run.exits))
+      (record {
+        value = value;
+        evaluates = evaluates;
+        after = goes_on defs specs n run (Set y ex) rest next context (with_temp y t run.source) one L more place has apart lemmas env there keeps (set_in (Some y) value act) h later;
+      })
+
 module _ (defs : Defs) (specs : SpecTable) (n : ℕ) (run : r.Run) (y : List ℕ) (ex : Expr) (rest : List Stmt) (laid : AreLaidOut defs.structs) (fits : RunFits defs specs run) (next : run.rest ≡ Set y ex ∷ rest) (bare : run.source.existentials ≡ []) where
-  same_scope : inner_scope run.source (scope_of run.context) ≡ scope_of run.context
-  same_scope = ap (λ bs. scope_with bs ++ scope_of run.context) bare
-
-  source_fits : SourceFits (value_defs defs) (scope_of run.context) run.source
-  source_fits = subst (λ s. SourceFits (value_defs defs) s run.source) same_scope (record {
-    locals = locals_in defs (inner_scope run.source (scope_of run.context)) run.source.locals fits.source.locals;
-    parts = parts_sized defs (inner_scope run.source (scope_of run.context)) (PredicatesOf defs (inner_scope run.source (scope_of run.context))) run.source.parts fits.source.parts;
-  })
-
   typed : IsTyped defs.structs (names_in fits.statements.file fits.statements.function) ex
   typed =
       let names = names_in fits.statements.file fits.statements.function in
@@ -141,7 +190,7 @@ module _ (defs : Defs) (specs : SpecTable) (n : ℕ) (run : r.Run) (y : List ℕ
   -- the goals behind the needs of a term
   module _ (v : Evaluated) (found : evaluate run.source defs.structs ex ≡ Ok v) (goals : List Goal) (w : Needed run.context run.source (needs_of v) (set_to run y v.term) goals) (hold : AllByRecursion (HoldsFor defs specs n) goals) where
     sides_fit : All (Fits (value_defs defs) (scope_of run.context)) v.sides
-    sides_fit = all_of (Fits (value_defs defs) (scope_of run.context)) v.sides (evaluation_fits (value_defs defs) (scope_of run.context) run.source source_fits ex v found).1.sides
+    sides_fit = all_of (Fits (value_defs defs) (scope_of run.context)) v.sides (evaluation_fits (value_defs defs) (scope_of run.context) run.source (source_fits defs specs run fits bare) ex v found).1.sides
 
     module _ (L : Linked) (more : List Further) (place : Places) (has : Has L defs specs) (apart : AreApart L more place) (lemmas : LemmasAreTrue (setting L more place) defs) (env : Env) (given : Given (setting L more place) defs run.context env)
         (keeps : KeepsBelow (world L more place) (sight L more place specs) n) (act : Act) (h : Heaplet) (stands : Stands (setting L more place) env run.exits.ret run.source act h) where
@@ -154,35 +203,10 @@ module _ (defs : Defs) (specs : SpecTable) (n : ℕ) (run : r.Run) (y : List ℕ
           let names = names_in fits.statements.file fits.statements.function in
           let meets = run_meets L more place defs specs run env act h has (subst AreLaidOut (sym has.structs) laid) given fits bare stands in
           let own = expressions_agree T env (seen (program L more place) act.blocks h) act.temps run.source h names meets ex v (subst (λ s. IsTyped s names ex) (sym has.structs) typed) (subst (λ s. evaluate run.source s ex ≡ Ok v) (sym has.structs) found) met.0 in
-          let value = own.agrees.value in
           let context = enriched run.context w.sides.kept in
-          let source = with_temp y v.term run.source in
-          let made : r.Run = record run { context = context; source = source; rest = drop 1 run.rest } in
-          let goals_are : runs_on run context source ∷ [] ≡ w.rest = same_goals (runs_on run context source ∷ []) w.rest w.behind_is in
-          let one : HoldsFor defs specs n (run_goal made) = (subst (AllByRecursion (HoldsFor defs specs n)) (sym goals_are) met.2).0 in
-          let there = one.in_each L more place has apart lemmas env (subst (λ c. Given T defs c env) (rest_context made made.rest made.exits.normal) met.1) in
-          let inner = with_data env run.source.existentials stands.holds.witnesses in
-          let same_env : inner ≡ env = ap (λ bs. with_data env bs stands.holds.witnesses) bare in
-          let later : Stands T env made.exits.ret source (set_in (Some y) value act) h = record {
-            result = stands.result;
-            blocks = stands.blocks;
-            distinct = stands.distinct;
-            places = stands.places;
-            holds = record {
-              witnesses = stands.holds.witnesses;
-              sorted = stands.holds.sorted;
-              props = stands.holds.props;
-              locals = set_locals T.defs inner act.temps y v.term value (subst (λ o. Means T.defs o v.term (Val value)) (sym same_env) own.agrees.means) run.source.locals fits.source.temporaries stands.holds.locals;
-              parts = stands.holds.parts;
-            };
-          } in
-          set_safe (world L more place) n y ex act h (with_normal (SafeAll (world L more place) n rest (goal_exits T env run.exits)) (goal_exits T env run.exits))
-          (record {
-            value = value;
-            evaluates = own.agrees.is;
-            after = subst (λ ss. SafeAll (world L more place) n ss (goal_exits T env run.exits) (set_in (Some y) value act) h) (ap (drop 1) next)
-                (runs_safe L more place specs n env made there keeps (set_in (Some y) value act) h later);
-          })
+          let goals_are : runs_on run context (with_temp y v.term run.source) ∷ [] ≡ w.rest = same_goals (runs_on run context (with_temp y v.term run.source) ∷ []) w.rest w.behind_is in
+          let one : HoldsFor defs specs n (runs_on run context (with_temp y v.term run.source)) = (subst (AllByRecursion (HoldsFor defs specs n)) (sym goals_are) met.2).0 in
+          set_on defs specs n run y ex rest next bare fits.source.temporaries v.term context one L more place has apart lemmas env met.1 keeps act h stands own.agrees.value own.agrees.means own.agrees.is
 
 pub set_sound : (defs : Defs) (specs : SpecTable) (n : ℕ) (run : r.Run) (y : List ℕ) (ex : Expr) (rest : List Stmt) (goals : List Goal) → AreLaidOut defs.structs → RunFits defs specs run → run.rest ≡ Set y ex ∷ rest → is_read ex ≡ false → Row defs.structs (Run run) (Ok goals) →
     AllByRecursion (HoldsFor defs specs n) goals → HoldsFor defs specs n (Run run)

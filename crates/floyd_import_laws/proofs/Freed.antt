@@ -92,7 +92,7 @@ free_name avoided a others x y found =
     record { number = found.number; small = found.small; is = found.is; allowed = p.0; free = q.0; bound = o.0; other = o.1 }
 
 module _ (avoided : List ℕ → Bool) (avoid : List (List ℕ)) (among : (y : List ℕ) → avoided y ≡ true → list_any (bytes_eq y) avoid ≡ true) (a : Assertion) where
-  fresh_new : (others : List Binder) (x : List ℕ) → length avoid + formula_sizes (formulas a.props) + sizes (plains (terms_in a)) + length others < 2 ^ 63 → IsNew avoided a others x (fresh_name avoided a others x)
+  pub fresh_new : (others : List Binder) (x : List ℕ) → length avoid + formula_sizes (formulas a.props) + sizes (plains (terms_in a)) + length others < 2 ^ 63 → IsNew avoided a others x (fresh_name avoided a others x)
   fresh_new others x l = by (avoided x) refl
     where
       among_all : (y : List ℕ) → taken avoided a others y ≡ true → list_any (bytes_eq y) (avoid ++ occurring a others) ≡ true
@@ -118,7 +118,7 @@ module _ (avoided : List ℕ → Bool) (avoid : List (List ℕ)) (among : (y : L
   new_allowed others x y (inl p) = subst (λ z. avoided z ≡ false) (sym p.0) p.1
   new_allowed others x y (inr p) = p.allowed
 
-  names_allowed : (done more : List Binder) (v : List ℕ) → length avoid + formula_sizes (formulas a.props) + sizes (plains (terms_in a)) + (length done + length more) < 2 ^ 63 → has_name v (names_from avoided a done more) ≡ true → avoided v ≡ false
+  pub names_allowed : (done more : List Binder) (v : List ℕ) → length avoid + formula_sizes (formulas a.props) + sizes (plains (terms_in a)) + (length done + length more) < 2 ^ 63 → has_name v (names_from avoided a done more) ≡ true → avoided v ≡ false
   names_allowed done [] v l h = absurd cc
   names_allowed done (b ∷ more) v l h =
       let c : Binder = record { name = fresh_name avoided a (done ++ more) b.name; sort = b.sort } in
@@ -131,7 +131,7 @@ module _ (avoided : List ℕ → Bool) (avoid : List (List ℕ)) (among : (y : L
   new_apart others x y (inl p) = inl p.0
   new_apart others x y (inr p) = inr p.other
 
-  fresh_apart : length avoid + body_nodes a < 2 ^ 63 → AreApart a.existentials → AreApart (fresh_from avoided a [] a.existentials)
+  pub fresh_apart : length avoid + body_nodes a < 2 ^ 63 → AreApart a.existentials → AreApart (fresh_from avoided a [] a.existentials)
   fresh_apart l h =
       subst AreApart (sym (new_is avoided a))
       (stay_apart (fresh_name avoided a) (length a.existentials) (λ others x k. new_apart others x (fresh_name avoided a others x) (fresh_new others x (omega (arith, l, k)))) [] a.existentials (omega arith) h)

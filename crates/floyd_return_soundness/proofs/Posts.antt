@@ -51,7 +51,7 @@ plain_post S env ret temps v h none x =
       parts = x.parts;
     }
 
-within_is : {T : Type 0} (fits : T → Bool) (x y : T) → within_limits fits x ≡ Ok y → x ≡ y
+pub within_is : {T : Type 0} (fits : T → Bool) (x y : T) → within_limits fits x ≡ Ok y → x ≡ y
 within_is {T} fits x y e = by (fits x) e
   where
     by : (b : Bool) → ◌≡◌ {A = Result T No} (if b then Ok x else Err too_large) (Ok y) → x ≡ y

@@ -1,6 +1,5 @@
 -- `forward` on a return and at a function's end is sound.
-use Rattle.std.proofs.Common.{◌≡◌, ℕ, ◌+◌, ◌<◌, ◌^◌, true, List, [], ◌∷◌, ◌++◌, map, Option, Some, None, Result, Ok, refl, sym, ap, subst, ◌∙◌, slice_get}
-use Rattle.std.specs.Prelude.{ℤ}
+use Rattle.std.proofs.Common.{◌≡◌, ℕ, ◌+◌, ◌<◌, ◌^◌, true, List, [], ◌∷◌, ◌++◌, Option, Some, None, Result, Ok, refl, sym, ap, subst, ◌∙◌, slice_get}
 use Rattle.std.specs.List.{AllByRecursion}
 use Rattle.std.proofs.lemmas.List.Elements.{All-nil}
 use Rattle.floyd_text.specs.declared.refusal.No.{No}
@@ -24,14 +23,12 @@ use Rattle.floyd_clight_typing.specs.Statements.{AreExpressionsTyped}
 use Rattle.floyd_tree_sorts.specs.declared.sorts.Sort.{Val as ValSort}
 use Rattle.floyd_tree_sorts.specs.Rows.{is_scalar}
 use Rattle.floyd_tree.specs.Formulas.{PlainFormula}
-use Rattle.floyd_tree.specs.Plain.{Plain, Plains, More, plains, size}
+use Rattle.floyd_tree.specs.Plain.{Plain, size}
 use Rattle.floyd_tree_values.specs.BuiltIns.{Env}
-use Rattle.floyd_tree_values.specs.Data.{Datum, Number, Val}
-use Rattle.floyd_tree_values.specs.Means.{AllMean, Means, more}
+use Rattle.floyd_tree_values.specs.Data.{Val}
+use Rattle.floyd_tree_values.specs.Means.{Means}
 use Rattle.floyd_tree_values.specs.Rules.{Scope}
-use Rattle.floyd_tree_values.proofs.OneValue.{no_data, one_value}
-use Rattle.floyd_truth.specs.Truth.{AllTrue, Truth, numbers_then}
-use Rattle.floyd_truth.specs.Types.{has_shape}
+use Rattle.floyd_truth.specs.Truth.{AllTrue}
 use Rattle.floyd_assert_cells.specs.Types.{shape_of, sizes_of}
 use Rattle.floyd_assert_trees.specs.declared.assertion.Assertion.{Assertion}
 use Rattle.floyd_assert_trees.specs.declared.items.Defs.{Defs}
@@ -60,9 +57,9 @@ use Rattle.floyd_goal_trees.specs.declared.exits.Exit.TheVariants as x
 use Rattle.floyd_goal_trees.specs.declared.goal.Goal.{Goal}
 use Rattle.floyd_goal_trees.specs.declared.goal.Goal.TheVariants.{Entail, Run}
 use Rattle.floyd_goal_trees.specs.declared.goal.Run as r
-use Rattle.floyd_goal_forms.specs.Assertions.{AssertionFits, PredicatesOf, inner_scope}
+use Rattle.floyd_goal_forms.specs.Assertions.{AssertionFits, inner_scope}
 use Rattle.floyd_goal_forms.specs.Goals.{IsNormal, ResultFits, RunFits}
-use Rattle.floyd_goal_forms.specs.Terms.{TermFits, scope_with}
+use Rattle.floyd_goal_forms.specs.Terms.{TermFits}
 use Rattle.floyd_goal_meaning.specs.declared.linked.Linked.{Linked}
 use Rattle.floyd_goal_meaning.specs.GoalHolds.{Given, HoldsFor, Leaves, LemmasAreTrue, MayReturn, Stands, goal_exits, postcondition, return_exits}
 use Rattle.floyd_goal_meaning.specs.Links.{AreApart, Has}
@@ -76,7 +73,6 @@ use Rattle.floyd_symexpr.specs.Expressions.{evaluate}
 use Rattle.floyd_symexpr_rows.specs.declared.needs.Needs.{Needs}
 use Rattle.floyd_symexpr_rows.specs.Formulas.{of_type, saying}
 use Rattle.floyd_symexpr_rows.specs.Rows.{nothing_needed}
-use Rattle.floyd_symexpr_forms.specs.Laws.{SourceFits}
 use Rattle.floyd_symexpr_forms.proofs.Pointers.{literals_good, of_type_fits}
 use Rattle.floyd_symexpr_forms.proofs.Readings.{evaluation_fits}
 use Rattle.floyd_symexpr_pointer_laws.specs.Laws.{IsMet}
@@ -88,20 +84,13 @@ use Rattle.floyd_forward.specs.Forward.{AtEnd, OfNext, Row}
 use Rattle.floyd_forward.specs.Return.{GivesBack, ReturnsTerm, given_back, result_needs, result_of, returned, without_blocks}
 use Rattle.floyd_forward.specs.Return as row
 use Rattle.floyd_forward_soundness.proofs.Needs.{all_of, needed_of, needs_met}
-use Rattle.floyd_forward_soundness.proofs.Setting.{locals_in, no_more, of_result, parts_sized, passed, same_goals}
+use Rattle.floyd_forward_soundness.proofs.Typed.{has_type}
+use Rattle.floyd_forward_soundness.proofs.Setting.{no_more, of_result, passed, same_goals, source_fits}
 use Rattle.floyd_return_soundness.specs.Laws.{IsPlain, IsPlainIfAny}
 use Rattle.floyd_return_soundness.proofs.Blocks.{GivenBack, blocks_back}
 use Rattle.floyd_return_soundness.proofs.Posts.{plain_post, post_met}
 
--- ---- values of the result's type
-
-has_by : (t : CType) (y : Value) → has_shape (shape_of t) y ≡ true → has t y ≡ true
-has_by Void y e = absurd cc
-has_by (Int k) y e = e
-has_by (Pointer' p (more_of-CType to end_of-CType)) y e = e
-has_by (Array' p (more_of-CType to end_of-CType) n) y e = absurd cc
-has_by (Struct tag) y e = absurd cc
-has_by (Function' shape ps p (more_of-CType result end_of-CType)) y e = absurd cc
+-- ---- forms of results
 
 is_void : (t : CType) → same_type t Void ≡ true → t ≡ Void
 is_void Void e = refl
@@ -126,33 +115,6 @@ value_fits defs scope (Function' shape ps p (more_of-CType result end_of-CType))
 fits_both : {A : Type 0} (P : A → Type 0) (xs ys : List A) → AllByRecursion P xs → AllByRecursion P ys → AllByRecursion P (xs ++ ys)
 fits_both P [] ys h k = k
 fits_both P (x ∷ xs) ys h k = (h.0, fits_both P xs ys h.1 k)
-
-never_empty : (ns : List ℤ) (y : Value) → map Number ns ++ Val y ∷ [] ≡ [] → ⊥
-never_empty [] y e = cc
-never_empty (n ∷ ns) y e = cc
-
-module _ (S : Setting) (env : Env) where
-  head_of : {u : Plain} {us : Plains} {d : Datum} {ds : List Datum} → AllMean S.defs env (More u us) (d ∷ ds) → Means S.defs env u d × AllMean S.defs env us ds
-  head_of (more m k) = (m, k)
-
-  none_given : {u : Plain} {us : Plains} → AllMean S.defs env (More u us) [] → ⊥
-  none_given k = elim k [ ]
-
-  some_left' : (us : List Plain) (t : Plain) → AllMean S.defs env (plains (us ++ t ∷ [])) [] → ⊥
-  some_left' [] t k = none_given k
-  some_left' (u ∷ us) t k = none_given k
-
-  last_value : (ts : List Plain) (ns : List ℤ) (t : Plain) (y : Value) → AllMean S.defs env (plains (ts ++ t ∷ [])) (numbers_then ns (Val y)) → Means S.defs env t (Val y)
-  last_value [] [] t y k = (head_of k).0
-  last_value [] (n ∷ ns) t y k = absurd (never_empty ns y (no_data (head_of k).1))
-  last_value (u ∷ us) [] t y k = absurd (some_left' us t (head_of k).1)
-  last_value (u ∷ us) (n ∷ ns) t y k = last_value us ns t y (head_of k).1
-
-  has_type : (t : CType) (u : Plain) (y : Value) → Truth S.defs S.has_spec env (of_type (sized_type t) u) → Means S.defs env u (Val y) → has t y ≡ true
-  has_type t u y (ns, z, k, holds) m =
-      let d : Val z ≡ Val y = one_value S.defs (last_value (sized_type t).sizes ns u z k) (Val y) m in
-      let same : z ≡ y = cc in
-      subst (λ w. has t w ≡ true) same (has_by t z holds)
 
 -- ---- blocks given back, and the target
 
@@ -235,18 +197,9 @@ module _ (defs : Defs) (specs : SpecTable) (n : ℕ) (run : r.Run) (ex : Expr) (
   abbrev claim' : PlainFormula
   claim' = of_type (sized_type run.exits.ret.result) v.term
 
-  same_scope : inner_scope run.source scope ≡ scope
-  same_scope = ap (λ bs. scope_with bs ++ scope) bare
-
-  source_fits : SourceFits (value_defs defs) scope run.source
-  source_fits = subst (λ s. SourceFits (value_defs defs) s run.source) same_scope (record {
-    locals = locals_in defs (inner_scope run.source scope) run.source.locals fits.source.locals;
-    parts = parts_sized defs (inner_scope run.source scope) (PredicatesOf defs (inner_scope run.source scope)) run.source.parts fits.source.parts;
-  })
-
   sides_fit : AllFit (value_defs defs) run.context sides
   sides_fit =
-      let good = evaluation_fits (value_defs defs) scope run.source source_fits ex v found in
+      let good = evaluation_fits (value_defs defs) scope run.source (source_fits defs specs run fits bare) ex v found in
       let result = run.exits.ret.result in
       let claim_fits : Fits (value_defs defs) scope claim' = of_type_fits (value_defs defs) scope (sized_type result) v.term plain.scalar (field_sizes result).count (literals_good (value_defs defs) scope (sizes_of result)) good.0 in
       all_of (Fits (value_defs defs) scope) sides

@@ -1,11 +1,11 @@
 -- What the part in which an object lies has of it.
-use Rattle.std.proofs.Common.{◌≡◌, ℕ, zero, suc, ◌+◌, ◌<◌, ◌≤◌, ◌^◌, true, ◌&&◌, ℤ, pos, ◌+ℤ◌, List, [], ◌∷◌, ◌++◌, length, Option, Some, None, Ok, refl, sym, ap, ap₂, subst, ◌∙◌, if◌then◌else◌, arith, IsTrue, inr}
+use Rattle.std.proofs.Common.{◌≡◌, ℕ, zero, suc, ◌+◌, ◌<◌, ◌≤◌, ◌^◌, true, ◌&&◌, ℤ, pos, ◌+ℤ◌, List, [], ◌∷◌, ◌++◌, length, Option, Some, None, Ok, refl, sym, ap, ap₂, subst, ◌∙◌, if◌then◌else◌, arith, IsTrue, ◌⊎◌, inl, inr}
 use Rattle.std.specs.Prelude.{◌==◌, option_and_then, option_map}
 use Rattle.std.specs.List.{AllByRecursion}
 use Rattle.std.proofs.lemmas.Bool.{eq-eqb}
 use Rattle.std.proofs.lemmas.Option.{cond_some, same_Some}
 use Rattle.floyd_int.specs.declared.kinds.Value.{Value}
-use Rattle.floyd_int.specs.declared.kinds.Value.TheVariants.{Vptr}
+use Rattle.floyd_int.specs.declared.kinds.Value.TheVariants.{Vptr, Vundef}
 use Rattle.floyd_int.specs.Kind.{modulo}
 use Rattle.floyd_ctypes.specs.declared.ctype.CType.{CType, Void, Int, Pointer', Array', Struct, Function', more_of-CType, end_of-CType}
 use Rattle.floyd_ctypes.specs.Has.{has}
@@ -93,7 +93,7 @@ first_byte (Some c) None h byte j e = ap byte_of j ∙ e
 first_byte (Some c) (Some d) h byte j e = ap byte_of j.2 ∙ e
 
 -- what shows the bytes of a heaplet shows those of a part of it
-shows_part : (byte_at : ℕ → ℕ → Option MemByte) (g k h : Heaplet) → Joins g k h → Shows byte_at h → Shows byte_at g
+pub shows_part : (byte_at : ℕ → ℕ → Option MemByte) (g k h : Heaplet) → Joins g k h → Shows byte_at h → Shows byte_at g
 shows_part byte_at g k h j s = λ b o byte e. s b o byte (first_byte (g b o) (k b o) (h b o) byte (j.at b o) e)
 
 first_cell : (g k h : Option Cell) (c : Cell) → JoinsAt g k h → g ≡ Some c → (d : Cell) × (h ≡ Some d)
@@ -146,7 +146,7 @@ load_is look (Array' p to n) s b o e = absurd cc
 load_is look (Struct tag) s b o e = absurd cc
 load_is look (Function' shape ps p r) s b o e = absurd cc
 
-chunk_is : (t : CType) (s : Scalar) → scalar_of t ≡ Some s → chunk_of t ≡ Some (chunk s)
+pub chunk_is : (t : CType) (s : Scalar) → scalar_of t ≡ Some s → chunk_of t ≡ Some (chunk s)
 chunk_is t s e = chunk_agrees t ∙ ap (option_map chunk) e
 
 store_is : (t : CType) (s : Scalar) (spot : Spot) (v : Value) (m : Mem) → scalar_of t ≡ Some s → has t v ≡ true → store_at t spot v m ≡ store (chunk s) m spot.block spot.offset v
@@ -155,8 +155,13 @@ store_is t s spot v m e good = ap (λ b. if b then store_as (chunk_of t) spot v 
 scalar_shape : (t : CType) (s : Scalar) (shape : Shape) → scalar_of t ≡ Some s → shape ≡ (sized_type t).shape → shape_scalar shape ≡ Some s
 scalar_shape t s shape e is = ap shape_scalar is ∙ shape_agrees t ∙ e
 
+-- what a scalar holds has its type
+typed_by : (t : CType) (s : Scalar) (v : Value) → scalar_of t ≡ Some s → (v ≡ Vundef) ⊎ IsTrue (holds s v) → (v ≡ Vundef) ⊎ (has t v ≡ true)
+typed_by t s v e (inl none) = inl none
+typed_by t s v e (inr good) = inr (holds_agrees t s v e ∙ good)
+
 -- the value of a scalar is a value
-scalar_sort : (structs : Structs) (t : CType) (s : Scalar) → scalar_of t ≡ Some s → value_sort structs (sized_type t).shape ≡ Some ValSort
+pub scalar_sort : (structs : Structs) (t : CType) (s : Scalar) → scalar_of t ≡ Some s → value_sort structs (sized_type t).shape ≡ Some ValSort
 scalar_sort structs (Int k) s e = refl
 scalar_sort structs (Pointer' p (more_of-CType to end_of-CType)) s e = refl
 scalar_sort structs Void s e = absurd cc
@@ -246,6 +251,7 @@ module _ (S : Setting) (env : Env) (look : Look) (temps : Temps) (e : Expr) wher
         record {
           value = held.0;
           means = subst (Means S.defs env t) held.1 (site.item_means t made);
+          typed = typed_by (type_of e) s held.0 sc held.2;
           is = λ some shows.
               value_of_object S.defs.structs look temps e is
               ∙ ap (option_and_then (value_at look (type_of e))) place
@@ -344,16 +350,56 @@ path_typed structs (one ∷ form) t u f =
     ap (option_and_then (λ w. nested.type_at structs w (path_of form))) (c.1 ∙ ap Some g.1) ∙ path_typed structs form b.0 u b.2
 
 -- the value of a part of a list in which each has the sort of its type
-sorted_among : (structs : Structs) (before behind : List Sep) (region : Region) (value : Plain) → AllByRecursion (PartIsSorted structs) (before ++ FieldAt region value ∷ behind) → ObjectIsSorted structs region value
+pub sorted_among : (structs : Structs) (before behind : List Sep) (region : Region) (value : Plain) → AllByRecursion (PartIsSorted structs) (before ++ FieldAt region value ∷ behind) → ObjectIsSorted structs region value
 sorted_among structs [] behind region value all = all.0
 sorted_among structs (part ∷ before) behind region value all = sorted_among structs before behind region value all.1
+
+-- what the answer alone says of the part, for one list of structs
+module _ (structs : Structs) (source : Assertion) (e : Expr) (given : Located) (l : Lvalue) (needs : Needs) (a : Answered structs l needs (sized_type (type_of e)) source.parts given) where
+  -- the form of the path, and the part
+  form_there : FormFound structs l.root (sized_type (type_of e)) l.form source.parts a.answer
+  form_there = form_found structs source.parts l.root (sized_type (type_of e)) l.form a.answer a.is
+
+  ends_there : (w : SizedType) × (agreeing_end structs form_there.part.region.ty form_there.part.has.begins.own ≡ Some w) × (agreeing_end structs w form_there.part.has.begins.rest ≡ Some (sized_type (type_of e)))
+  ends_there =
+      ends_parts structs form_there.part.region.ty (sized_type (type_of e)) form_there.part.has.begins.own form_there.part.has.begins.rest
+      (subst (λ f. agreeing_end structs form_there.part.region.ty f ≡ Some (sized_type (type_of e))) form_there.part.has.begins.is form_there.part.has.ends)
+
+  path_there : given.path ≡ form_there.part.region.path ++ path_of form_there.part.has.begins.rest
+  path_there =
+      a.path ∙ ap (λ (f : Found). path_of f.form) form_there.part.is ∙ ap path_of form_there.part.has.begins.is ∙ path_parts form_there.part.has.begins.own form_there.part.has.begins.rest
+      ∙ ap (λ p. p ++ path_of form_there.part.has.begins.rest) form_there.part.has.begins.path_is
+
+  lies_there : LiesIn structs source.parts given (type_of e)
+  lies_there = record {
+    before = form_there.part.before;
+    region = form_there.part.region;
+    value = form_there.part.value;
+    behind = form_there.part.behind;
+    parts_are = form_there.part.parts_are;
+    number = a.part ∙ ap (λ (f : Found). f.number) form_there.part.is ∙ one_behind (length form_there.part.before);
+    root = a.root ∙ form_there.part.has.root_is;
+    rest = path_of form_there.part.has.begins.rest;
+    path = path_there;
+    type = ends_there.0;
+    nested = ap (nested.type_at structs form_there.part.region.ty) (sym form_there.part.has.begins.path_is) ∙ path_typed structs form_there.part.has.begins.own form_there.part.region.ty ends_there.0 ends_there.1;
+    typed = path_typed structs form_there.part.has.begins.rest ends_there.0 (sized_type (type_of e)) ends_there.2;
+  }
+
+-- an object that is located lies in a part
+pub lies_in : (structs : Structs) (source : Assertion) (e : Expr) (given : Located) → locate source structs e ≡ Ok given → LiesIn structs source.parts given (type_of e)
+lies_in structs source e given f =
+    let p = ok_parts ((read source structs e).place nothing_needed) (λ l. located structs source.parts (type_of e) l.0 l.1) given f in
+    let l = p.0.0 in
+    let needs = p.0.1 in
+    let last = sized_type (type_of e) in
+    lies_there structs source e given l needs (answered_by structs l needs last source.parts given (found structs source.parts l.root last l.form) refl p.2)
 
 module _ (S : Setting) (env : Env) (look : Look) (temps : Temps) (source : Assertion) (h : Heaplet) (known : Names) (state : Meets S env look temps source h known) (e : Expr) (given : Located) (l : Lvalue) (needs : Needs)
     (stands : Stands S env l (type_of e) (place_by S.defs.structs look temps e)) (ranged : AllTrue S.defs S.has_spec env (subscript_ranges l.subscripts)) (say : AllTrue S.defs S.has_spec env given.sides) (is : is_place e ≡ true) (bare : place_loads S.defs.structs look temps e ≡ [])
     (a : Answered S.defs.structs l needs (sized_type (type_of e)) source.parts given) (sorted : AllByRecursion (PartIsSorted S.defs.structs) source.parts) where
-  -- the form of the path, and the part
-  form : FormFound S.defs.structs l.root (sized_type (type_of e)) l.form source.parts a.answer
-  form = form_found S.defs.structs source.parts l.root (sized_type (type_of e)) l.form a.answer a.is
+  abbrev form : FormFound S.defs.structs l.root (sized_type (type_of e)) l.form source.parts a.answer
+  form = form_there S.defs.structs source e given l needs a
 
   abbrev own : List Taken
   own = form.part.has.begins.own
@@ -364,10 +410,8 @@ module _ (S : Setting) (env : Env) (look : Look) (temps : Temps) (source : Asser
   adds : (x : ℤ) × (y : ℤ) × Adds S.defs env own x × Adds S.defs env rest y × (stands.bytes ≡ x +ℤ y)
   adds = adds_parts S.defs env own rest stands.bytes (subst (λ f. Adds S.defs env f stands.bytes) form.part.has.begins.is (form_adds S.defs env l.form form.used stands.bytes form.of (stands.adds ranged)))
 
-  ends : (w : SizedType) × (agreeing_end S.defs.structs form.part.region.ty own ≡ Some w) × (agreeing_end S.defs.structs w rest ≡ Some (sized_type (type_of e)))
-  ends =
-      ends_parts S.defs.structs form.part.region.ty (sized_type (type_of e)) own rest
-      (subst (λ f. agreeing_end S.defs.structs form.part.region.ty f ≡ Some (sized_type (type_of e))) form.part.has.begins.is form.part.has.ends)
+  abbrev ends : (w : SizedType) × (agreeing_end S.defs.structs form.part.region.ty own ≡ Some w) × (agreeing_end S.defs.structs w rest ≡ Some (sized_type (type_of e)))
+  ends = ends_there S.defs.structs source e given l needs a
 
   object_sorted : ObjectIsSorted S.defs.structs form.part.region form.part.value
   object_sorted = sorted_among S.defs.structs form.part.before form.part.behind form.part.region form.part.value (subst (AllByRecursion (PartIsSorted S.defs.structs)) form.part.parts_are sorted)
@@ -388,26 +432,11 @@ module _ (S : Setting) (env : Env) (look : Look) (temps : Temps) (source : Asser
       site S env state.structs form.part.region form.part.value object_sorted own rest ends.0 (sized_type (type_of e)) adds.0 adds.1 form.part.has.begins.path_is ends.1 ends.2 adds.2 adds.3
       a.ranges given.sides bounded say g m v mean located there
 
-  path_is : given.path ≡ form.part.region.path ++ path_of rest
-  path_is =
-      a.path ∙ ap (λ (f : Found). path_of f.form) form.part.is ∙ ap path_of form.part.has.begins.is ∙ path_parts own rest
-      ∙ ap (λ p. p ++ path_of rest) form.part.has.begins.path_is
+  abbrev path_is : given.path ≡ form.part.region.path ++ path_of rest
+  path_is = path_there S.defs.structs source e given l needs a
 
-  lies : LiesIn S.defs.structs source.parts given (type_of e)
-  lies = record {
-    before = form.part.before;
-    region = form.part.region;
-    value = form.part.value;
-    behind = form.part.behind;
-    parts_are = form.part.parts_are;
-    number = a.part ∙ ap (λ (f : Found). f.number) form.part.is ∙ one_behind (length form.part.before);
-    root = a.root ∙ form.part.has.root_is;
-    rest = path_of rest;
-    path = path_is;
-    type = ends.0;
-    nested = ap (nested.type_at S.defs.structs form.part.region.ty) (sym form.part.has.begins.path_is) ∙ path_typed S.defs.structs own form.part.region.ty ends.0 ends.1;
-    typed = path_typed S.defs.structs rest ends.0 (sized_type (type_of e)) ends.2;
-  }
+  abbrev lies : LiesIn S.defs.structs source.parts given (type_of e)
+  lies = lies_there S.defs.structs source e given l needs a
 
   same_spot : (b s : ℕ) (spot : Spot) → modulo (pos s +ℤ (adds.0 +ℤ adds.1)) (2 ^ 64) ≡ spot.offset → spot.block ≡ b → ◌≡◌ {A = Option Spot} (Some (record { block = b; offset = modulo (pos s +ℤ stands.bytes) (2 ^ 64) })) (Some spot)
   same_spot b s spot f g =
@@ -419,7 +448,7 @@ module _ (S : Setting) (env : Env) (look : Look) (temps : Temps) (source : Asser
   is_at path spot at = record { means = at.means; steps = at.steps; of_path = subst (λ p. PathMeans S.defs env p at.steps) (sym path_is) at.of_path; located = at.located; block = at.block; offset = at.offset }
 
   from_site : (g : Heaplet) → Site S env form.part.region form.part.value (path_of rest) ends.0 (sized_type (type_of e)) (adds.0 +ℤ adds.1) g → StandsIn S env look temps source.parts e given lies g
-  unfolding lies form ends is_at
+  unfolding lies_there form_there ends_there is_at
   from_site g s =
       let root : Means S.defs env l.root (Val (Vptr s.spot.block s.start)) = subst (λ t. Means S.defs env t (Val (Vptr s.spot.block s.start))) (sym form.part.has.root_is) s.root in
       let place : place_by S.defs.structs look temps e ≡ Some s.spot = stands.is s.spot.block s.start root ranged ∙ same_spot s.spot.block s.start s.spot s.place refl in
@@ -434,7 +463,7 @@ module _ (S : Setting) (env : Env) (look : Look) (temps : Temps) (source : Asser
       }
 
   is_located : IsLocated S env look temps source.parts e given
-  unfolding form lies
+  unfolding form_there lies_there
   is_located = record { lies = lies; loads = bare; stands = λ g holds. from_site g (site_in g holds.0 holds.1 holds.2 holds.3.0 holds.3.1) }
 
 module _ (S : Setting) (env : Env) (look : Look) (temps : Temps) (source : Assertion) (h : Heaplet) (known : Names) (state : Meets S env look temps source h known) where

@@ -52,7 +52,7 @@ use Rattle.floyd_symexpr_soundness.proofs.Bounding.{Joined, bounds_legal, bounds
 use Rattle.floyd_symexpr_soundness.proofs.Walking.{Walked, means_on, one_path, walk}
 
 -- the type at a path has sizes for its arrays
-sizes_at : (structs : Structs) (t u : SizedType) (path : List PathStep) → HasSizes t → type_at structs t path ≡ Some u → HasSizes u
+pub sizes_at : (structs : Structs) (t u : SizedType) (path : List PathStep) → HasSizes t → type_at structs t path ≡ Some u → HasSizes u
 sizes_at structs t u [] w e = subst HasSizes (same_Some t u e) w
 sizes_at structs t u (step ∷ path) w e =
     let a = step_some structs path (type_after structs t step) u e in

@@ -1,5 +1,5 @@
 -- What an expression means in a state that meets an assertion, and what the parts of the assertion say of an object.
-use Rattle.std.specs.Prelude.{◌≡◌, ◌≢◌, ℕ, ◌+◌, true, pos, List, [], ◌∷◌, ◌++◌, length, Some, Ok}
+use Rattle.std.specs.Prelude.{◌≡◌, ◌≢◌, ◌⊎◌, ℕ, ◌+◌, true, pos, List, [], ◌∷◌, ◌++◌, length, Some, Ok}
 use Rattle.std.specs.List.{AllByRecursion}
 use Rattle.floyd_int.specs.declared.kinds.Value.{Value}
 use Rattle.floyd_int.specs.declared.kinds.Value.TheVariants.{Vundef}
@@ -133,11 +133,12 @@ pub record IsAt (S : Setting) (env : Env) (r : Region) (path : List PathStep) (s
   pub block : spot.block ≡ located.block
   pub offset : spot.offset ≡ located.offset + located.shift
 
--- The value of a term stands in the heaplet: where it is not undefined, and the bytes of the heaplet are seen, the machine
--- loads it, and what is loaded lies in the heaplet.
+-- The value of a term stands in the heaplet: it is undefined, or one of the object's type. Where it is not undefined, and the
+-- bytes of the heaplet are seen, the machine loads it, and what is loaded lies in the heaplet.
 pub record IsLoaded (S : Setting) (env : Env) (look : Look) (temps : Temps) (e : Expr) (t : Plain) (h : Heaplet) : Type 0 where
   pub value : Value
   pub means : Means S.defs env t (Val value)
+  pub typed : (value ≡ Vundef) ⊎ (has (type_of e) value ≡ true)
   pub is : value ≢ Vundef → Shows look.byte_at h → eval_by S.defs.structs look temps e ≡ Some value
   pub loads : AllWithin h (value_loads S.defs.structs look temps e)
 

@@ -1,0 +1,5 @@
+pub mod Items
+pub mod Locals
+pub mod Running
+pub mod Rows
+pub mod Forward

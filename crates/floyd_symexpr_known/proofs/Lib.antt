@@ -1,0 +1,6 @@
+pub mod Answers
+pub mod Rows
+pub mod Pointers
+pub mod Places
+pub mod Readings
+pub mod Locations

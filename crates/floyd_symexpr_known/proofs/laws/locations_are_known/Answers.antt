@@ -1,0 +1,5 @@
+use Rattle.floyd_symexpr_known.proofs.Locations.{location_known}
+use Rattle.floyd_symexpr_known.proofs.laws.locations_are_known.Goals as goal
+
+pub returns : goal.returns
+returns c = λ defs specs names source e given file known typed f. location_known defs specs names file source known e given typed f
