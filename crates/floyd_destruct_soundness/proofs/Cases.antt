@@ -128,8 +128,10 @@ module _ (L : Linked) (more : List Further) (place : Places) (defs : Defs) (spec
   abbrev S : Setting
   S = setting L more place
 
-  pub case_under : (x : List ℕ) (sort : Sort) (t : Plain) (new : List Binder) (ds : List Datum) (made : Goal) → sort_named x (context_of goal).variables ≡ Some sort → sort_of t ≡ Some sort → fits t ≡ true → first_taken (context_of goal).variables [] new ≡ None → AreFor new ds → case_with goal x t new ≡ Ok made → Means S.defs (giving env (with_each env.variables new ds)) t (env.variables x) → HoldsFor defs specs n made → HoldsUnder L more place specs n env goal
-  case_under x sort t new ds made is sorted small fresh are row means held =
+  -- where it does under the data for the new variables alone
+  pub case_at : (x : List ℕ) (sort : Sort) (t : Plain) (new : List Binder) (ds : List Datum) (made : Goal) → sort_named x (context_of goal).variables ≡ Some sort → sort_of t ≡ Some sort → fits t ≡ true → first_taken (context_of goal).variables [] new ≡ None → AreFor new ds → case_with goal x t new ≡ Ok made → Means S.defs (giving env (with_each env.variables new ds)) t (env.variables x) →
+      (Given S defs (context_of made) (giving env (with_each env.variables new ds)) → HoldsUnder L more place specs n (giving env (with_each env.variables new ds)) made) → HoldsUnder L more place specs n env goal
+  case_at x sort t new ds made is sorted small fresh are row means held =
       let context = context_of goal in
       let others = are_apart context.variables [] new fresh in
       let names = other_names defs specs goal new formed (are_distinct context.variables [] new fresh) others in
@@ -141,5 +143,8 @@ module _ (L : Linked) (more : List Further) (place : Places) (defs : Defs) (spec
       let given' : Given S defs (with_names context new []) there = given_names S defs env goal new names ds are [] given tt in
       let hyps = hypotheses_true S there x t small own defs specs (scope_of context) context.hypotheses c.hypotheses (hypotheses_fit defs specs goal formed) (hypotheses_agree (puts ((x, t) ∷ [])) goal agree) c.all in
       let in_case : Given S defs (context_of made) there = subst (λ k. Given S defs k there) (sym c.context) (given_case S defs there context x new others given' c.hypotheses hyps) in
-      let here : HoldsUnder L more place specs n there goal = follows_under L more place defs specs n there there goal made (alike_follow S there there.variables goal made c.alike) (held.in_each L more place has apart lemmas there in_case) in
+      let here : HoldsUnder L more place specs n there goal = follows_under L more place defs specs n there there goal made (alike_follow S there there.variables goal made c.alike) (held in_case) in
       from_other L more place defs specs n goal context env there (follows_names S defs env goal new names ds are context) here
+
+  pub case_under : (x : List ℕ) (sort : Sort) (t : Plain) (new : List Binder) (ds : List Datum) (made : Goal) → sort_named x (context_of goal).variables ≡ Some sort → sort_of t ≡ Some sort → fits t ≡ true → first_taken (context_of goal).variables [] new ≡ None → AreFor new ds → case_with goal x t new ≡ Ok made → Means S.defs (giving env (with_each env.variables new ds)) t (env.variables x) → HoldsFor defs specs n made → HoldsUnder L more place specs n env goal
+  case_under x sort t new ds made is sorted small fresh are row means held = case_at x sort t new ds made is sorted small fresh are row means (λ g. held.in_each L more place has apart lemmas (giving env (with_each env.variables new ds)) g)

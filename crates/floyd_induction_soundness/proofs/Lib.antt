@@ -1,0 +1,3 @@
+-- Lemmas on proofs by induction.
+pub mod Inducting
+pub mod Places
