@@ -1,0 +1,4 @@
+-- Lemmas on arrays, and on pieces of them.
+pub mod Pieces
+pub mod Lists
+pub mod Goals
