@@ -30,7 +30,7 @@ fn are_of_trees(a: &Pattern, b: &Pattern) -> bool
 }
 
 /// Whether the patterns are those of that sort.
-fn are_of(sort: &Sort, a: &Pattern, b: &Pattern) -> Result<bool, AllocError>
+pub fn are_of(sort: &Sort, a: &Pattern, b: &Pattern) -> Result<bool, AllocError>
     ensures { IfOk result (λ r. r ≡ are_of_lem sort.now a.now b.now) }
 {
     if sort.item()?.is_some() {

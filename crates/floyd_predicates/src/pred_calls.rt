@@ -15,7 +15,11 @@ fn has_name(name: &Name, binders: &[Binder]) -> bool
 }
 
 /// The names that no existential has.
-fn unhidden(alloc: Global, existentials: &[Binder], parts: &[Name]) -> Result<Vec<Name>, AllocError>
+pub fn unhidden(
+    alloc: Global,
+    existentials: &[Binder],
+    parts: &[Name],
+) -> Result<Vec<Name>, AllocError>
     ensures { IfOk result (λ all. all.items ≡ unhidden_lem existentials.now parts.now) }
 {
     let mut all = Vec::new(alloc);

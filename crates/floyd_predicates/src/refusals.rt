@@ -7,7 +7,7 @@ use floyd_text::{Code, Name, Place, Refusal, Shown};
 use std::alloc::AllocError;
 
 /// Whether the first place stands before the second.
-fn is_before(p: Place, q: Place) -> bool
+pub fn is_before(p: Place, q: Place) -> bool
     ensures { result ≡ is_before_lem p q }
 {
     let in_line = p.line < q.line || (p.line == q.line && p.column < q.column);

@@ -10,7 +10,7 @@ use Rattle.floyd_termread_scope.specs.Scopes.{Env, env, sort_of, with_variable}
 use Rattle.floyd_termread_assertions.specs.Assertions.{under}
 use Rattle.floyd_termread_assertions.specs.BoundClauses.{Sorts, bound_by, bound_by_all}
 
-abbrev env_of : Scope → Sorts → Env
+abbrev pub env_of : Scope → Sorts → Env
 env_of s sorts = record {
   variable = λ x. option_or (sorts x) (sort_of s.variables x);
   defs = s.defs.now;
@@ -30,7 +30,7 @@ under_one : (s : Scope) (x : Binder) (sorts : Sorts) → env_of s (bound_by x so
 under_one s x sorts =
     ap (λ (v : Sorts). record (env_of s sorts) { variable = v }) (fun_ext (λ y. or_of (bytes_eq x.name y) x.sort (sorts y) (sort_of s.variables y)))
 
-under_all : (s : Scope) (xs : List Binder) (sorts : Sorts) → env_of s (bound_by_all xs sorts) ≡ under xs (env_of s sorts)
+pub under_all : (s : Scope) (xs : List Binder) (sorts : Sorts) → env_of s (bound_by_all xs sorts) ≡ under xs (env_of s sorts)
 under_all s [] sorts = refl
 under_all s (x ∷ xs) sorts = under_all s xs (bound_by x sorts) ∙ ap (under xs) (under_one s x sorts)
 

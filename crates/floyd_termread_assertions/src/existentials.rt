@@ -125,8 +125,9 @@ fn bind_one(binder: &Binder, bound: &mut Variables) -> Result<(), AllocError>
     Ok(())
 }
 
-/// Binds the variables of binders, the first one first.
-pub(crate) fn bind_all(binders: &[Binder], bound: &mut Variables) -> Result<(), AllocError>
+/// Binds the variables of binders, the first one first. Nothing is said of the variables that are bound where memory runs
+/// out.
+pub fn bind_all(binders: &[Binder], bound: &mut Variables) -> Result<(), AllocError>
     ensures { OnOk result (sort_of bound.new ≡ clauses.bound_by_all binders.now (sort_of bound.old)) }
 {
     let mut rest = binders;

@@ -1,0 +1,15 @@
+use Rattle.std.proofs.Common.{◌-◌, ◌≤◌, [], ◌∷◌, length}
+use Rattle.floyd_lex.specs.declared.kinds.Punctuator.TheVariants as p
+use Rattle.floyd_termread_tokens.specs.Tokens.{is_mark}
+use Rattle.floyd_specread_words.proofs.ManyLemmas.{SoFar}
+use Rattle.floyd_specread_cases.specs.Cases as specs
+use Rattle.floyd_specread_cases.proofs.forms.more_forms_at.Given as goal
+
+abbrev pub decreases-each : goal.decreases-each
+decreases-each l = length l.text.tokens.now.items - l.next
+
+abbrev pub invariant-each : goal.invariant-each
+invariant-each l = record {
+  within : l.next ≤ length l.text.tokens.now.items;
+  so_far : SoFar l.text.bytes.now l.text.tokens.now (is_mark p.Bar) (specs.next_form l.text.bytes.now l.text.tokens.now l.form) (l.fn.first ∷ []) l.at l.patterns l.next;
+}

@@ -1,0 +1,18 @@
+use Rattle.std.proofs.Common.{ℕ, Ok, Err, refl}
+use Rattle.floyd_specread_sources.specs.declared.functions.Prototype.{Prototype}
+use Rattle.floyd_specread_declarations.specs.Judging as specs
+use Rattle.floyd_termread_parts.proofs.Chains.{stopped}
+use Rattle.floyd_specread_declarations.proofs.typed.typed_named_at.Goals as goal
+
+pub returns-in_err-spec : goal.returns-in_err-spec
+returns-in_err-spec c = record {
+  exact =
+      stopped (λ (x : Prototype × ℕ). x) (specs.typed_named c.args.text.bytes.now c.args.text.tokens.now c.args.items.now c.args.at) c.from_residual.result c.in_err-spec.field-0.0 c.from_residual.ensures.1
+      (λ refusal e. (Err refusal, rw e at c.in_err-spec.ensures.exact, refl));
+}
+
+pub returns : goal.returns
+returns c = record {
+  exact =
+      (Ok (c.in_ok-spec.spec, c.in_ok-spec.behind), c.in_ok-spec.ensures.exact, rw (c.in_ok-types.ensures, c.get.ensures) refl);
+}

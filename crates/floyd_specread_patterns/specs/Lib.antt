@@ -1,0 +1,4 @@
+-- Definitions that contracts cite.
+pub mod Patterns
+pub mod Binders
+pub mod NameClauses

@@ -1,0 +1,17 @@
+use Rattle.std.proofs.Common.{ℕ, Ok, Err, refl}
+use Rattle.floyd_specread_skims.specs.Skims as specs
+use Rattle.floyd_termread_parts.proofs.Chains.{stopped}
+use Rattle.floyd_specread_skims.proofs.lists.skim_list.Goals as goal
+
+pub returns-in_err-_open-clause-exact : goal.returns-in_err-_open-clause-exact
+returns-in_err-_open-clause-exact c =
+    stopped (λ (n : ℕ). (tt, n)) (specs.list_of c.args.text.bytes.now c.args.text.tokens.now c.args.spot.depth c.args.between c.args.what c.args.spot.at) c.from_residual.result c.in_err-_open.field-0.0 c.from_residual.ensures.1
+    (λ refusal e. (Err refusal, rw e at c.in_err-_open.ensures.exact, refl))
+
+pub returns-in_err-_found-clause-exact : goal.returns-in_err-_found-clause-exact
+returns-in_err-_found-clause-exact c =
+    stopped (λ (n : ℕ). (tt, n)) (specs.list_of c.args.text.bytes.now c.args.text.tokens.now c.args.spot.depth c.args.between c.args.what c.args.spot.at) c.from_residual-in_err-_found.result c.in_err-_found.field-0.0 c.from_residual-in_err-_found.ensures.1
+    (λ refusal e. (Ok (c.in_ok-_open._open, c.in_ok-_open.at), c.in_ok-_open.ensures.exact, (Err refusal, rw e at c.in_err-_found.ensures.exact, refl)))
+
+pub returns-clause-exact : goal.returns-clause-exact
+returns-clause-exact c = (Ok (c.in_ok-_open._open, c.in_ok-_open.at), c.in_ok-_open.ensures.exact, (Ok (c.in_ok-_found._found, c.in_ok-_found.behind), c.in_ok-_found.ensures.exact, refl))

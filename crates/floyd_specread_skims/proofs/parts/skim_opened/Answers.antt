@@ -1,0 +1,14 @@
+use Rattle.std.proofs.Common.{ℕ, ◌+◌, Ok, Err, refl}
+use Rattle.floyd_specread_skims.specs.Skims as specs
+use Rattle.floyd_termread_parts.proofs.Chains.{stopped, carried}
+use Rattle.floyd_specread_skims.proofs.parts.skim_opened.Goals as goal
+
+pub returns-in_err-_open-clause-exact : goal.returns-in_err-_open-clause-exact
+returns-in_err-_open-clause-exact c =
+    stopped (λ (n : ℕ). (tt, n)) (specs.opened c.args.text.bytes.now c.args.text.tokens.now c.args.spot.depth c.args.word c.args.spot.at) c.from_residual.result c.in_err-_open.field-0.0 c.from_residual.ensures.1
+    (λ refusal e. (Err refusal, rw e at c.in_err-_open.ensures.exact, refl))
+
+pub returns-clause-exact : goal.returns-clause-exact
+returns-clause-exact c =
+    carried (λ (n : ℕ). (tt, n)) (specs.opened c.args.text.bytes.now c.args.text.tokens.now c.args.spot.depth c.args.word c.args.spot.at) c.skim_inside.result (specs.inside c.args.text.bytes.now c.args.text.tokens.now (c.args.spot.depth + 1) c.args.word c.in_ok-_open.at) c.skim_inside.ensures.exact
+    (λ a d. (Ok (c.in_ok-_open._open, c.in_ok-_open.at), c.in_ok-_open.ensures.exact, d))
