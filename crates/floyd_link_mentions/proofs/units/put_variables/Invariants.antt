@@ -1,0 +1,9 @@
+use Rattle.std.proofs.Common.{◌≡◌, length}
+use Rattle.floyd_link_mentions.specs.MentionClauses.{with_variables}
+use Rattle.floyd_link_mentions.proofs.units.put_variables.Given as goal
+
+abbrev pub decreases-variables : goal.decreases-variables
+decreases-variables l = length l.rest
+
+abbrev pub invariant-variables : goal.invariant-variables
+invariant-variables l = with_variables l.rest l.names ≡ with_variables l.variables l.initial.names
