@@ -1,0 +1,3 @@
+pub mod Deriving
+pub mod Gathering
+pub mod Table

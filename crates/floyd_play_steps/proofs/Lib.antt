@@ -1,0 +1,5 @@
+pub mod NumberLemmas
+pub mod StepLemmas
+pub mod StateLemmas
+pub mod PlayLemmas
+pub mod DerivationLemmas
