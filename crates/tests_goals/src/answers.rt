@@ -22,7 +22,7 @@ pub fn are_goals<L: Ledger>(
         return Ok(false);
     }
     'goals: for (goal, tree) in goals.iter().zip(answer) {
-        if !same_goal(goal, &goal_of(alloc, tree, steps)?) {
+        if !same_goal(goal, &goal_of(alloc, tree, steps)?)? {
             return Ok(false);
         }
     }

@@ -6,6 +6,7 @@ use floyd_tree::{Weight, WeightList};
 use sqlite_items::Items;
 use std::alloc::{AllocError, Global};
 use std::sync::ledger::Ledger;
+use tests_parts::assertion_of;
 use tests_terms::{DEPTH, Stop, Tree, formula_of, part, terms_of};
 
 /// The arguments of a command that takes none.
@@ -44,7 +45,8 @@ fn other_of(trees: &[Tree]) -> Result<u32, Stop> {
     }
 }
 
-/// Adds `(H NUMBER)`, `(P NUMBER)`, `(P NUMBER NUMBER)`, `(X NAME)`, `(F FORMULA)`, `(T TERM ..)`, `(N NAME ..)`, `(W WEIGHT ..)` or `(Back)`.
+/// Adds `(H NUMBER)`, `(P NUMBER)`, `(P NUMBER NUMBER)`, `(X NAME)`, `(F FORMULA)`, `(T TERM ..)`, `(N NAME ..)`, `(W WEIGHT ..)`,
+/// `(A ASSERTION)` or `(Back)`.
 fn add_argument<L: Ledger>(
     alloc: Global,
     tree: &Tree,
@@ -64,6 +66,10 @@ fn add_argument<L: Ledger>(
         "T" => args.terms = Items::from_vec(terms_of(alloc, own, DEPTH, steps)?),
         "N" => args.names = names_of(alloc, own)?,
         "W" => args.weights = weights_of(alloc, own)?,
+        "A" => {
+            let assertion = assertion_of(alloc, part(own, 0)?.parts(), steps)?;
+            args.assertions.push(assertion)?;
+        }
         "Back" => args.back = true,
         _ => return Err(Stop::Unreadable),
     }

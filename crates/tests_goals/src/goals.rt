@@ -1,5 +1,6 @@
 //! Goals from the rows of a table.
 use floyd_assert_trees::{Assertion, Binder, Defs, NameList, SpecTable, Table};
+use floyd_clight::{BlockList, Local};
 use floyd_ctypes::{CType, StructTable};
 use floyd_goal::{Context, Entail, Exit, Exits, Goal, Mark, Pure, Rest, Return, Run};
 use floyd_text::{Name, Shared, Steps};
@@ -7,6 +8,7 @@ use floyd_tree::{Sort, Term};
 use sqlite_items::Items;
 use std::alloc::{AllocError, Global};
 use std::sync::ledger::Ledger;
+use tests_clight::{TYPE_DEPTH, ctype_of, statements_of};
 use tests_parts::{assertion_of, binders_of};
 use tests_terms::{DEPTH, Stop, Tree, formula_of, formulas_of, part, term_of};
 
@@ -105,42 +107,75 @@ fn value_of<L: Ledger>(
     Ok(Some(term_of(alloc, tree, DEPTH, steps)?))
 }
 
-/// What a function without blocks must give: a value, where there is a term for one.
-fn return_with(
+/// The type of a result, or `void` where there is no tree.
+fn result_of(alloc: Global, tree: Option<&Tree>) -> Result<CType, Stop> {
+    match tree {
+        Some(tree) => ctype_of(alloc, tree, TYPE_DEPTH),
+        None => Ok(CType::Void),
+    }
+}
+
+/// `(NAME TYPE)` for each.
+fn blocks_of(alloc: Global, trees: &[Tree]) -> Result<BlockList, Stop> {
+    let mut all = Items::new(alloc);
+    'trees: for tree in trees {
+        let name = part(tree.parts(), 0)?.name()?;
+        let ctype = ctype_of(alloc, part(tree.parts(), 1)?, TYPE_DEPTH)?;
+        all.push(Local { name, ctype })?;
+    }
+    Ok(all)
+}
+
+/// `POST VALUE`, and the type of the result and the blocks where there are trees for them.
+fn return_of<L: Ledger>(
     alloc: Global,
-    post: Shared<Assertion>,
-    value: Option<Term>,
-) -> Result<Return, AllocError> {
+    trees: &[Tree],
+    steps: &mut Steps<L>,
+) -> Result<Return, Stop> {
+    let post = assertion_at(alloc, trees, 0, false, steps)?;
+    let value = value_of(alloc, part(trees, 1)?, steps)?;
+    let result = result_of(alloc, trees.get(2))?;
+    let blocks = Shared::new(alloc, blocks_of(alloc, parts_at(trees, 3))?)?;
     Ok(Return {
         post,
         value,
+        result,
+        blocks,
+    })
+}
+
+/// What a function without blocks and without a result must give: nothing.
+fn no_return(alloc: Global) -> Result<Return, AllocError> {
+    Ok(Return {
+        post: Shared::new(alloc, nothing(alloc, false)?)?,
+        value: None,
         result: CType::Void,
         blocks: Shared::new(alloc, Items::new(alloc))?,
     })
 }
 
-/// `NORMAL BREAK CONTINUE POST VALUE`, or the end of a function without a result where there are no trees.
+/// `NORMAL BREAK CONTINUE POST VALUE RESULT (BLOCK ..)`, or the end of a function without a result where there are no trees.
+/// Without RESULT it is `void`, and without blocks there are none.
 fn exits_of<L: Ledger>(
     alloc: Global,
     trees: &[Tree],
     steps: &mut Steps<L>,
 ) -> Result<Shared<Exits>, Stop> {
-    let post = assertion_at(alloc, trees, 3, false, steps)?;
-    let [normal, brk, cont, _, value] = trees else {
+    let [normal, brk, cont, _, _, ..] = trees else {
         let exits = Exits {
             normal: Exit::End,
             brk: Exit::None,
             cont: Exit::None,
-            ret: return_with(alloc, post, None)?,
+            ret: no_return(alloc)?,
         };
         return Ok(Shared::new(alloc, exits)?);
     };
-    let value = value_of(alloc, value, steps)?;
+    let ret = return_of(alloc, trees.get(3..).unwrap_or(&[]), steps)?;
     let exits = Exits {
         normal: exit_of(alloc, normal, steps)?,
         brk: exit_of(alloc, brk, steps)?,
         cont: exit_of(alloc, cont, steps)?,
-        ret: return_with(alloc, post, value)?,
+        ret,
     };
     Ok(Shared::new(alloc, exits)?)
 }
@@ -177,7 +212,7 @@ fn run<L: Ledger>(
     steps: &mut Steps<L>,
 ) -> Result<Goal, Stop> {
     let source = assertion_at(alloc, trees, 3, pending, steps)?;
-    let rest = Rest::new(Shared::new(alloc, Items::new(alloc))?);
+    let rest = Rest::new(Shared::new(alloc, statements_of(alloc, parts_at(trees, 5))?)?);
     let exits = exits_of(alloc, parts_at(trees, 4), steps)?;
     Ok(Goal::Run(Run {
         context,
@@ -208,9 +243,8 @@ fn goal_behind<L: Ledger>(
     }
 }
 
-/// `(Pure (BINDER ..) (FORMULA ..) TARGET)`, `(Run (BINDER ..) (FORMULA ..) SOURCE EXITS)` or
-/// `(Entail (BINDER ..) (FORMULA ..) SOURCE TARGET)`, with no statements left. What is not written of the last two says
-/// nothing; `PendingRun` and `PendingEntail` are the same where the source has an existential. `(Marked MARK GOAL)` stands in
+/// `(Pure (BINDER ..) (FORMULA ..) TARGET)`, `(Run (BINDER ..) (FORMULA ..) SOURCE EXITS (STATEMENT ..))` or
+/// `(Entail (BINDER ..) (FORMULA ..) SOURCE TARGET)`. What is not written of the last two says nothing; `PendingRun` and `PendingEntail` are the same where the source has an existential. `(Marked MARK GOAL)` stands in
 /// the proof of a lemma.
 pub fn goal_of<L: Ledger>(alloc: Global, tree: &Tree, steps: &mut Steps<L>) -> Result<Goal, Stop> {
     let trees = tree.parts();

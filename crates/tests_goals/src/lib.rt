@@ -10,5 +10,5 @@ mod structs;
 
 pub use answers::{are_goals, is_refusal};
 pub use arguments::args_of;
-pub use goals::{goal_of, no_defs, no_specs};
+pub use goals::{goal_of, names_of, no_defs, no_specs};
 pub use structs::add_struct;

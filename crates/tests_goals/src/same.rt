@@ -1,8 +1,10 @@
 //! Whether goals are the same, also in the names that formulas bind.
 use floyd_assert::{Assertion, Binder, Local, Sep, equal_part};
-use floyd_goal::{Context, Entail, Exit, Exits, Goal, Mark, Return, Run};
+use floyd_goal::{Context, Entail, Exit, Exits, Goal, Mark, Rest, Return, Run};
 use floyd_text::Name;
 use floyd_tree::{Formula, Term, equal, formula_head, formula_kids, formula_terms};
+use std::alloc::AllocError;
+use tests_clight::same_statement;
 
 fn same_binders(a: &[Binder], b: &[Binder]) -> bool {
     if a.len() != b.len() {
@@ -139,10 +141,28 @@ fn same_exits(a: &Exits, b: &Exits) -> bool {
         && same_return(&a.ret, &b.ret)
 }
 
-fn same_run(a: &Run, b: &Run) -> bool {
-    same_context(&a.context, &b.context)
+/// Whether the same statements are left, up to the expressions in them.
+fn same_rest(a: &Rest, b: &Rest) -> Result<bool, AllocError> {
+    let mut left = a.share()?;
+    let mut other = b.share()?;
+    'statements: while let Some(s) = left.first() {
+        let Some(t) = other.first() else {
+            return Ok(false);
+        };
+        if !same_statement(s, t) {
+            return Ok(false);
+        }
+        left.advance();
+        other.advance();
+    }
+    Ok(other.is_empty())
+}
+
+fn same_run(a: &Run, b: &Run) -> Result<bool, AllocError> {
+    let said = same_context(&a.context, &b.context)
         && same_assertion(a.source.get(), b.source.get())
-        && same_exits(a.exits.get(), b.exits.get())
+        && same_exits(a.exits.get(), b.exits.get());
+    Ok(said && same_rest(&a.rest, &b.rest)?)
 }
 
 fn same_entail(a: &Entail, b: &Entail) -> bool {
@@ -151,14 +171,14 @@ fn same_entail(a: &Entail, b: &Entail) -> bool {
         && same_assertion(a.target.get(), b.target.get())
 }
 
-/// Whether both are of one kind, in the same context, and say the same. No statements are left in either.
-pub fn same_goal(a: &Goal, b: &Goal) -> bool {
+/// Whether both are of one kind, in the same context, and say the same.
+pub fn same_goal(a: &Goal, b: &Goal) -> Result<bool, AllocError> {
     match (a, b) {
         (Goal::Run(a), Goal::Run(b)) => same_run(a, b),
-        (Goal::Entail(a), Goal::Entail(b)) => same_entail(a, b),
+        (Goal::Entail(a), Goal::Entail(b)) => Ok(same_entail(a, b)),
         (Goal::Pure(a), Goal::Pure(b)) => {
-            same_formula(&a.target, &b.target) && same_context(&a.context, &b.context)
+            Ok(same_formula(&a.target, &b.target) && same_context(&a.context, &b.context))
         }
-        _ => false,
+        _ => Ok(false),
     }
 }

@@ -2,7 +2,6 @@
 //! an assertion, or where its object lies. Rows that answer otherwise are printed, and how many agree.
 #![tactic(auto)]
 
-mod expressions;
 mod rows;
 mod structs;
 

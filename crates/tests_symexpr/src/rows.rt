@@ -1,6 +1,5 @@
 ghost use Rattle.std.specs.Prelude.{◌≡◌, ◌<◌};
 
-use crate::expressions::expression_of;
 use crate::structs::put_struct;
 use floyd_assert::{Defs, equal_formula};
 use floyd_clight::BlockList;
@@ -9,6 +8,7 @@ use floyd_text::{RuleStop, Steps};
 use floyd_tree::{Formula, Path, PathStep, Term, equal};
 use std::alloc::Global;
 use std::sync::ledger::{Blank, Ledger};
+use tests_clight::expression_of;
 use tests_parts::{assertion_of, path_of};
 use tests_terms::{DEPTH, Stop, Tree, formulas_of, part, term_of, terms_of};
 

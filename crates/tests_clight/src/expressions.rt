@@ -1,4 +1,4 @@
-use crate::structs::{DEPTH, ctype_of, kind_of};
+use crate::types::{TYPE_DEPTH, ctype_of, kind_of};
 use floyd_clight::{Binding, Expr, UnaryOp};
 use floyd_int::{IntOp, Value, repr};
 use floyd_text::Shared;
@@ -65,14 +65,14 @@ pub fn expression_of(alloc: Global, tree: &Tree, depth: u32) -> Result<Expr, Sto
     }
     let parts = tree.parts();
     let last = part(parts, parts.len().saturating_sub(1))?;
-    let ty = ctype_of(alloc, last, DEPTH)?;
+    let ty = ctype_of(alloc, last, TYPE_DEPTH)?;
     let first = part(parts, 1)?;
     match (part(parts, 0)?.word(), parts.len()) {
         ("const", _) => Ok(Expr::Const(value_of(last.word(), first.number()?)?, ty)),
         ("temp", _) => Ok(Expr::Temp(first.name()?, ty)),
         ("local", _) => Ok(Expr::Var(Binding::Block, first.name()?, ty)),
         ("file", _) => Ok(Expr::Var(Binding::File, first.name()?, ty)),
-        ("sizeof", _) => Ok(Expr::SizeOf(ctype_of(alloc, first, DEPTH)?, ty)),
+        ("sizeof", _) => Ok(Expr::SizeOf(ctype_of(alloc, first, TYPE_DEPTH)?, ty)),
         ("*", 3) => Ok(Expr::Deref(shared_of(alloc, first, depth - 1)?, ty)),
         ("address", _) => Ok(Expr::AddrOf(shared_of(alloc, first, depth - 1)?, ty)),
         ("cast", _) => Ok(Expr::Cast(shared_of(alloc, first, depth - 1)?, ty)),

@@ -1,5 +1,5 @@
 use Rattle.std.proofs.Common.{◌+◌, ◌*◌}
-use Rattle.tests_symexpr.proofs.expressions.+expression.Given as goal
+use Rattle.tests_clight.proofs.expressions.+expression.Given as goal
 
 abbrev pub decreases-shared_of : goal.decreases-shared_of
 decreases-shared_of l = 2 * l.depth + 1

@@ -1,5 +1,5 @@
 use Rattle.std.proofs.Common.{◌+◌, ◌*◌}
-use Rattle.tests_symexpr.proofs.structs.+ctype.Given as goal
+use Rattle.tests_clight.proofs.types.+ctype.Given as goal
 
 abbrev pub decreases-ctype_of : goal.decreases-ctype_of
 decreases-ctype_of l = 2 * l.depth + 1
